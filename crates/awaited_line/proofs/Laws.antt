@@ -12,7 +12,7 @@ use borrow.Author.Tests.{eq-eqb, ne-eqb, eqb-false}
 use Rattle.grammar.specs.Bytes.{Bytes}
 use Rattle.grammar.specs.Refusals.{noForwarding}
 use Rattle.grammar.specs.Lines.{trim, isComment}
-use Rattle.grammar.specs.Sid.{hasFeature, framed, levelInForce, letterF}
+use Rattle.grammar.specs.Sid.{hasFeature, framed, levelOfSid, letterF}
 use Rattle.sid.specs.declared.Sid.{Sid}
 use Rattle.sid.specs.Meaning.{sidOf}
 use Rattle.session_memory.specs.Session.{Session}
@@ -26,35 +26,35 @@ use Rattle.numbers_in_place.proofs.Arrays.{deferred-lent, block-lent}
 use Rattle.line_effect.specs.declared.Verdict.{Verdict}
 use Rattle.line_effect.specs.Judged.{Judged}
 use Rattle.line_effect.specs.Verdict.{judgedOf, judgedIn}
-use Rattle.line_effect.specs.Judge.{refusal, wentOn, inPhase, toTurn, withMode, afterSid, sidRead, sidLine, lineBy, commentLine, judgeOf}
+use Rattle.line_effect.specs.Judge.{refusal, wentOn, inPhase, toTurn, withMode, afterSid, sidTaken, sidLine, lineBy, commentLine, judgeOf}
 
 module _ (s : Session) where
   -- a SID
-  pub sid-no : (o : Option (List ℕ)) (r : Sid) → r ≡ sidOf o → (r .number ≡ 0 → ⊥) → refusal (r .number) s ≡ sidRead o s
+  pub sid-no : (o : Option (List ℕ)) (r : Sid) → r ≡ sidOf o → (r .number ≡ 0 → ⊥) → refusal (r .number) s ≡ sidTaken o s
   unfolding sidOf
   sid-no none r e n = ap (λ (x : Sid). refusal (x .number) s) e
   sid-no (some fs) r e n = go (hasFeature letterF fs) refl
     where
-      go : (b : Bool) → hasFeature letterF fs ≡ b → refusal (r .number) s ≡ cond b (wentOn (withNow (afterSid (s .now)) (withKeep (withMode (framed fs) (levelInForce fs) (s .keep)) s))) (refusal noForwarding s)
+      go : (b : Bool) → hasFeature letterF fs ≡ b → refusal (r .number) s ≡ cond b (wentOn (withNow (afterSid (s .now)) (withKeep (withMode (framed fs) (levelOfSid fs) (s .keep)) s))) (refusal noForwarding s)
       go true q = absurd (n (ap (λ (x : Sid). x .number) e ∙ rw q))
       go false q = ap (λ (x : Sid). refusal (x .number) s) e ∙ rw q
 
-  sid-yes : (o : Option (List ℕ)) (r : Sid) → r ≡ sidOf o → r .number ≡ 0 → wentOn (withNow (afterSid (s .now)) (withKeep (withMode (framed (r .features .levels)) (levelInForce (r .features .levels)) (s .keep)) s)) ≡ sidRead o s
+  sid-yes : (o : Option (List ℕ)) (r : Sid) → r ≡ sidOf o → r .number ≡ 0 → wentOn (withNow (afterSid (s .now)) (withKeep (withMode (framed (r .features .levels)) (levelOfSid (r .features .levels)) (s .keep)) s)) ≡ sidTaken o s
   unfolding sidOf
   sid-yes none r e n = let z : ⊥ = omega (arith, ap (λ (x : Sid). x .number) e) in absurd z
   sid-yes (some fs) r e n = go (hasFeature letterF fs) refl
     where
-      go : (b : Bool) → hasFeature letterF fs ≡ b → wentOn (withNow (afterSid (s .now)) (withKeep (withMode (framed (r .features .levels)) (levelInForce (r .features .levels)) (s .keep)) s)) ≡ cond b (wentOn (withNow (afterSid (s .now)) (withKeep (withMode (framed fs) (levelInForce fs) (s .keep)) s))) (refusal noForwarding s)
-      go true q = ap (λ (x : Sid). wentOn (withNow (afterSid (s .now)) (withKeep (withMode (framed (x .features .levels)) (levelInForce (x .features .levels)) (s .keep)) s))) e
+      go : (b : Bool) → hasFeature letterF fs ≡ b → wentOn (withNow (afterSid (s .now)) (withKeep (withMode (framed (r .features .levels)) (levelOfSid (r .features .levels)) (s .keep)) s)) ≡ cond b (wentOn (withNow (afterSid (s .now)) (withKeep (withMode (framed fs) (levelOfSid fs) (s .keep)) s))) (refusal noForwarding s)
+      go true q = ap (λ (x : Sid). wentOn (withNow (afterSid (s .now)) (withKeep (withMode (framed (x .features .levels)) (levelOfSid (x .features .levels)) (s .keep)) s))) e
       go false q = let f : r .number ≡ noForwarding = ap (λ (x : Sid). x .number) e ∙ rw q in let z : ⊥ = omega (arith, f) in absurd z
 
-  module _ (o : Option (List ℕ)) (r : Sid) (e : r ≡ sidOf o) (n : r .number ≡ 0) (b : Bool) (f : b ≡ framed (r .features .levels)) (v : ℕ) (g : v ≡ levelInForce (r .features .levels)) where
-    pub sid-prompt : s .now .phase ≡ phaseCallerSid → wentOn (withNow (inPhase phasePrompt (s .now)) (withKeep (withMode b v (s .keep)) s)) ≡ sidRead o s
+  module _ (o : Option (List ℕ)) (r : Sid) (e : r ≡ sidOf o) (n : r .number ≡ 0) (b : Bool) (f : b ≡ framed (r .features .levels)) (v : ℕ) (g : v ≡ levelOfSid (r .features .levels)) where
+    pub sid-prompt : s .now .phase ≡ phaseCallerSid → wentOn (withNow (inPhase phasePrompt (s .now)) (withKeep (withMode b v (s .keep)) s)) ≡ sidTaken o s
     sid-prompt h =
         let q : inPhase phasePrompt (s .now) ≡ afterSid (s .now) = rw (eq-eqb _ _ h) in
         rw (q, f, g) (sid-yes o r e n)
 
-    pub sid-turn : (s .now .phase ≡ phaseCallerSid → ⊥) → wentOn (withNow (toTurn false (s .now)) (withKeep (withMode b v (s .keep)) s)) ≡ sidRead o s
+    pub sid-turn : (s .now .phase ≡ phaseCallerSid → ⊥) → wentOn (withNow (toTurn false (s .now)) (withKeep (withMode b v (s .keep)) s)) ≡ sidTaken o s
     sid-turn h =
         let q : toTurn false (s .now) ≡ afterSid (s .now) = rw (ne-eqb _ _ h) in
         rw (q, f, g) (sid-yes o r e n)
@@ -88,8 +88,8 @@ abbrev pub judging : Bytes → Bytes → Bytes → Bytes → ℕ → Session →
 judging ln table known inbox store s = judgeOf ln s table known inbox store
 
 -- a test of the line without the spaces at its end, by what was tested
-pub told : (ln w : Bytes) (b c : Bool) → w ≡ trim ln → b ≡ isComment w → b ≡ c → isComment (trim ln) ≡ c
-told ln w b c e f g = sym (ap isComment e) ∙ sym f ∙ g
+pub comment-told : (ln w : Bytes) (b c : Bool) → w ≡ trim ln → b ≡ isComment w → b ≡ c → isComment (trim ln) ≡ c
+comment-told ln w b c e f g = sym (ap isComment e) ∙ sym f ∙ g
 
 -- a rule of a line on what was handed to it
 pub trimmed-by : (ln w : Bytes) (f : Bytes → Judged) (j : Judged) → w ≡ trim ln → j ≡ f w → j ≡ f (trim ln)

@@ -8,13 +8,13 @@ use native.Mathlib.Nat.{add-zero, sub-zero, zero-sub, suc-sub-suc, add-assoc, ze
 use native.Mathlib.Numerals.{add-one}
 use lib.Dec.{ltb}
 use lib.ListN.{length, take, drop, set, replicate, length-append, length-take, length-drop, length-replicate, take-append-drop, drop-of-length-le}
-use lib.Seq.{set-split, take-at, take-length, drop-drop, drop-append-add, take-nil, drop-nil}
+use lib.Seq.{set-split, take-at, take-length, drop-drop, drop-append-add, take-nil, drop-nil, sets, sets-eq}
 use borrow.Author.Tests.{lt-ltb, le-ltb, ltb-true, ltb-false}
 use Rattle.grammar.specs.Bytes.{Bytes}
 use Rattle.grammar.proofs.Basics.{to-end}
 use Rattle.copying.proofs.Laws.{past-end}
 use Rattle.buffer.specs.declared.Cursor.{Cursor}
-use Rattle.buffer.specs.Put.{wrote, cut, putBytes, putCursor, Puts}
+use Rattle.buffer.specs.Put.{wrote, cut, putBytes, putCursor, Puts, cursor}
 
 -- ---------------------------------------------------------------- lists
 
@@ -69,9 +69,6 @@ module _ (d : Bytes) (at : ℕ) (p q : Bytes) (h : at + length p ≤ length d) w
       rw (e₁, e₂, append-assoc (take at d) p, ← append-assoc p q)
 
 -- ---------------------------------------------------------------- one text
-
-abbrev pub cursor : ℕ → ℕ → Cursor
-cursor a s = record { at = a; skip = s }
 
 -- a full buffer takes nothing
 pub put-full : (d : Bytes) (c : Cursor) (p : Bytes) → length d ≤ c .at → putBytes d c p ≡ d
@@ -263,3 +260,7 @@ puts-zeros d c n h l k w e f =
   where
     s : Bytes
     s = replicate n 0
+
+-- byte by byte
+pub wrote-sets : (d : Bytes) (at : ℕ) (p : Bytes) → at + length p ≤ length d → wrote d at p ≡ sets d at p
+wrote-sets d at p h = sym (append-assoc (take at d) p (drop (at + length p) d)) ∙ sym (sets-eq p d at h)

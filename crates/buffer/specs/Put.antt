@@ -37,3 +37,7 @@ example-cursor = refl
 -- The contract of every writer: the text p, put into the buffer d at the cursor c, leaves the cursor r and the buffer e.
 abbrev pub Puts : Bytes → Cursor → Bytes → Cursor → Bytes → Type 0
 Puts d c p r e = (r ≡ putCursor (length d) c p) × (e ≡ putBytes d c p)
+
+-- The place where the next byte goes, and how many bytes of the text are passed over.
+abbrev pub cursor : ℕ → ℕ → Cursor
+cursor place skip = record { at = place; skip = skip }

@@ -6,6 +6,9 @@ ghost use Rattle.grammar.specs.Sid.{authorByte, dataByte};
 ghost use Rattle.byte.specs.Classes.{classOf};
 ghost use Rattle.byte.specs.Hex.{hexIs};
 
+// How many values a byte has.
+pub const BYTE_VALUES: usize = 256;
+
 // A small letter stands so much further on than its capital.
 const TO_SMALL: u8 = b'a' - b'A';
 

@@ -28,7 +28,7 @@ Takes true sm store bs sm′ store′ =
 Takes false sm store bs sm′ store′ = (sm′ ≡ sm) × (store′ ≡ store)
 
 -- Session memory sm with the numbers h takes bytes: they are there, and the session has not ended.
-pub record Live (h : Numbers) (sm bs : Bytes) : Type 0 where
+pub record TakesBytes (h : Numbers) (sm bs : Bytes) : Type 0 where
   pub size : length sm ≡ sessionLen
   pub numbers : h ≡ numbersAt sm
   pub going : overOf (loadOf sm) ≡ false

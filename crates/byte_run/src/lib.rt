@@ -8,7 +8,7 @@ ghost use lib.ListN.{length};
 ghost use Rattle.grammar.specs.Bytes.{Bytes, LF};
 ghost use Rattle.phase.specs.Phase.{phaseTransfer};
 ghost use Rattle.receive_defined.specs.Roomy.{Roomy};
-ghost use Rattle.byte_run.specs.Taking.{hasCr, Takes, Live, Quiet};
+ghost use Rattle.byte_run.specs.Taking.{hasCr, Takes, TakesBytes, Quiet};
 
 // One of the bytes ends a line.
 fn has_cr(bytes: &[u8]) -> bool
@@ -26,7 +26,7 @@ fn has_cr(bytes: &[u8]) -> bool
 
 // Bytes of a line before its CR, as long as the line has room.
 fn line_run(s: Numbers, bytes: &[u8], sm: &mut [u8]) -> bool
-    requires { ⌜ Live s (now sm) (now bytes) × Quiet s (now bytes) × (s .now .phase ≡ phaseTransfer → ⊥) ⌝ }
+    requires { ⌜ TakesBytes s (now sm) (now bytes) × Quiet s (now bytes) × (s .now .phase ≡ phaseTransfer → ⊥) ⌝ }
     ensures { λ r. ⌜ ((store : Bytes) → Takes r (now (sm .entry)) store (now (bytes .entry)) (now (sm .exit)) store) ⌝ }
 {
     let len = s.line.len as usize;
@@ -44,13 +44,13 @@ fn line_run(s: Numbers, bytes: &[u8], sm: &mut [u8]) -> bool
         places::LINE + len,
         bytes,
     );
-    numbers_in_place::put_line(sm, len + bytes.len());
+    numbers_in_place::put_line_length(sm, len + bytes.len());
     true
 }
 
 // Bytes of a body.
 fn body_run(s: Numbers, bytes: &[u8], sm: &mut [u8], store: &mut [u8]) -> bool
-    requires { ⌜ Live s (now sm) (now bytes) × Quiet s (now bytes) × (s .now .phase ≡ phaseTransfer) × Roomy s (length (now store)) ⌝ }
+    requires { ⌜ TakesBytes s (now sm) (now bytes) × Quiet s (now bytes) × (s .now .phase ≡ phaseTransfer) × Roomy s (length (now store)) ⌝ }
     ensures { λ r. ⌜ Takes r (now (sm .entry)) (now (store .entry)) (now (bytes .entry)) (now (sm .exit)) (now (store .exit)) ⌝ }
 {
     let reader = s.reader;
@@ -60,7 +60,7 @@ fn body_run(s: Numbers, bytes: &[u8], sm: &mut [u8], store: &mut [u8]) -> bool
         return false;
     }
     let next = q.reader;
-    numbers_in_place::put_reader(sm, next);
+    numbers_in_place::put_read_so_far(sm, next);
     true
 }
 
@@ -75,8 +75,8 @@ pub fn is_dropped(after_cr: bool, b: u8) -> bool
 }
 
 // Takes the bytes if all of them only make the line or the body under way longer; whether they do. s: the numbers in session memory.
-pub fn take(s: Numbers, bytes: &[u8], sm: &mut [u8], store: &mut [u8]) -> bool
-    requires { ⌜ Live s (now sm) (now bytes) × Roomy s (length (now store)) ⌝ }
+pub fn take_run(s: Numbers, bytes: &[u8], sm: &mut [u8], store: &mut [u8]) -> bool
+    requires { ⌜ TakesBytes s (now sm) (now bytes) × Roomy s (length (now store)) ⌝ }
     ensures { λ r. ⌜ Takes r (now (sm .entry)) (now (store .entry)) (now (bytes .entry)) (now (sm .exit)) (now (store .exit)) ⌝ }
 {
     let b = bytes[0];

@@ -38,14 +38,14 @@ withSession sm s = station sm (s .inbox) (s .store)
 -- ---------------------------------------------------------------- what the functions answer and leave
 
 -- The answer of a call, and the station after it.
-pub record Answered : Type 0 where
+pub record StationReply : Type 0 where
   pub answer : ℕ
   pub station : Station
 
-unfoldable pub openedOf : Station → Answered
+unfoldable pub openedOf : Station → StationReply
 openedOf s = record { answer = opens s .reply .answer; station = withSession (opens s .sm) s }
 
-unfoldable pub heardOf : Station → Bytes → Answered
+unfoldable pub heardOf : Station → Bytes → StationReply
 heardOf s bs = record { answer = hears s bs .reply .answer; station = leftBy (hears s bs) }
 
 -- How many bytes of a buffer our node has sent after a give, n of them before it, with session memory and the buffer then.

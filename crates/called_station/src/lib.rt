@@ -48,7 +48,7 @@ pub fn hear(session: &mut [u8], inbox: &mut [u8], store: &mut [u8], bytes: &[u8]
 }
 
 // What waits, behind the first n bytes of the buffer and as far as it has room; how many bytes stand there then.
-pub fn take(session: &mut [u8], inbox: &[u8], store: &[u8], out: &mut [u8], n: usize) -> usize
+pub fn take_given(session: &mut [u8], inbox: &[u8], store: &[u8], out: &mut [u8], n: usize) -> usize
     ensures { λ r. ⌜ record { count = r; session = now (session .exit); out = now (out .exit) } ≡ sentOf (station (now (session .entry)) (now (inbox .entry)) (now (store .entry))) (now (out .entry)) n ⌝ }
 {
     let none: &[u8] = b"";

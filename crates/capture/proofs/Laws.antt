@@ -8,19 +8,19 @@ use lib.Dec.{eqb}
 use lib.ListN.{length, getD, drop}
 use lib.Seq.{drop-cons}
 use Rattle.grammar.specs.Bytes.{Bytes}
-use Rattle.called_station.specs.Station.{Station, withSession, Answered, heardOf, Sent, sentOf}
+use Rattle.called_station.specs.Station.{Station, withSession, StationReply, heardOf, Sent, sentOf}
 use Rattle.called_station.proofs.Laws.{hears-none}
-use Rattle.capture.specs.Playing.{overOf, Playing, playing, takenOf, stepOf, playOf}
+use Rattle.capture.specs.Playing.{playedOut, Playing, playing, takenOf, playStepOf, playOf}
 
-pub taken-is : (answer : ℕ) (s : Station) (out : Bytes) (n : ℕ) {g : Sent} {h : Answered} → g ≡ sentOf s out n → h ≡ heardOf (withSession (g .session) s) []
+pub taken-is : (answer : ℕ) (s : Station) (out : Bytes) (n : ℕ) {g : Sent} {h : StationReply} → g ≡ sentOf s out n → h ≡ heardOf (withSession (g .session) s) []
     → playing (record { refusal = answer; over = not (eqb (h .answer) 0); count = g .count }) (h .station) (g .out) ≡ takenOf answer s out n
-unfolding takenOf overOf heardOf
+unfolding takenOf playedOut heardOf
 taken-is answer s out n {g} {h} e f =
-    ap (λ (x : Answered). playing (record { refusal = answer; over = not (eqb (x .answer) 0); count = g .count }) (x .station) (g .out)) f
-    ∙ ap (λ (x : Station). playing (record { refusal = answer; over = overOf (withSession (g .session) s); count = g .count }) x (g .out)) (hears-none (withSession (g .session) s))
-    ∙ ap (λ (x : Sent). playing (record { refusal = answer; over = overOf (withSession (x .session) s); count = x .count }) (withSession (x .session) s) (x .out)) e
+    ap (λ (x : StationReply). playing (record { refusal = answer; over = not (eqb (x .answer) 0); count = g .count }) (x .station) (g .out)) f
+    ∙ ap (λ (x : Station). playing (record { refusal = answer; over = playedOut (withSession (g .session) s); count = g .count }) x (g .out)) (hears-none (withSession (g .session) s))
+    ∙ ap (λ (x : Sent). playing (record { refusal = answer; over = playedOut (withSession (x .session) s); count = x .count }) (withSession (x .session) s) (x .out)) e
 
-module _ (p t : Playing) (bs : Bytes) (i : ℕ) (h : i < length bs) (e : t ≡ stepOf p (getD bs i 0)) where
+module _ (p t : Playing) (bs : Bytes) (i : ℕ) (h : i < length bs) (e : t ≡ playStepOf p (getD bs i 0)) where
   -- an end
   pub play-stops : t .played .over ≡ true → t ≡ playOf p (drop i bs)
   unfolding playOf

@@ -8,8 +8,8 @@ use Rattle.called_station.specs.Station.{Station, withSession, openedOf, heardO
 use Rattle.capture.specs.declared.Played.{Played}
 
 -- A receive of no bytes tells whether the session has ended: it answers 0 while it goes on.
-unfoldable pub overOf : Station → Bool
-overOf s = not (eqb (heardOf s [] .answer) 0)
+unfoldable pub playedOut : Station → Bool
+playedOut s = not (eqb (heardOf s [] .answer) 0)
 
 -- What has come of the capture so far, with the station and the buffer then.
 pub record Playing : Type 0 where
@@ -28,15 +28,15 @@ unplayed s out = playing (record { refusal = 0; over = false; count = 0 }) s out
 unfoldable pub takenOf : ℕ → Station → Bytes → ℕ → Playing
 takenOf answer s out n =
     let g = sentOf s out n in
-    playing (record { refusal = answer; over = overOf (withSession (g .session) s); count = g .count }) (withSession (g .session) s) (g .out)
+    playing (record { refusal = answer; over = playedOut (withSession (g .session) s); count = g .count }) (withSession (g .session) s) (g .out)
 
 -- ".. after open"
-unfoldable pub startOf : Station → Bytes → Playing
-startOf s out = takenOf (openedOf s .answer) (openedOf s .station) out 0
+unfoldable pub playStartOf : Station → Bytes → Playing
+playStartOf s out = takenOf (openedOf s .answer) (openedOf s .station) out 0
 
 -- ".. and after each byte"
-unfoldable pub stepOf : Playing → ℕ → Playing
-stepOf p b =
+unfoldable pub playStepOf : Playing → ℕ → Playing
+playStepOf p b =
     let h = heardOf (p .station) (b ∷ []) in
     takenOf (h .answer) (h .station) (p .out) (p .played .count)
 
@@ -44,6 +44,6 @@ stepOf p b =
 unfoldable pub playOf : Playing → Bytes → Playing
 playOf p [] = p
 playOf p (b ∷ bs) =
-    let t = stepOf p b in
+    let t = playStepOf p b in
     let r = playOf t bs in
     cond (t .played .over) t r

@@ -2,7 +2,7 @@
 // goes into a buffer, since no contract can speak of standard output.
 ghost use mathlib.Core.Path.{_≡_};
 ghost use Rattle.called_station.specs.Station.{station};
-ghost use Rattle.capture.specs.Playing.{playing, unplayed, takenOf, startOf, stepOf, playOf};
+ghost use Rattle.capture.specs.Playing.{playing, unplayed, takenOf, playStartOf, playStepOf, playOf};
 
 // What has come of the capture so far: the answer of the last call, whether the session has ended, and how many bytes of the buffer our
 // node would have sent.
@@ -24,7 +24,7 @@ fn taken(
 ) -> Played
     ensures { λ r. ⌜ playing r (station (now (session .exit)) (now (inbox .exit)) (now (store .exit))) (now (out .exit)) ≡ takenOf answer (station (now (session .entry)) (now (inbox .entry)) (now (store .entry))) (now (out .entry)) n ⌝ }
 {
-    let count = called_station::take(session, inbox, store, out, n);
+    let count = called_station::take_given(session, inbox, store, out, n);
     let now = called_station::hear(session, inbox, store, b"");
     Played {
         refusal: answer,
@@ -34,15 +34,15 @@ fn taken(
 }
 
 // Opens the session and takes what waits.
-pub fn start(session: &mut [u8], inbox: &mut [u8], store: &mut [u8], out: &mut [u8]) -> Played
-    ensures { λ r. ⌜ playing r (station (now (session .exit)) (now (inbox .exit)) (now (store .exit))) (now (out .exit)) ≡ startOf (station (now (session .entry)) (now (inbox .entry)) (now (store .entry))) (now (out .entry)) ⌝ }
+pub fn play_start(session: &mut [u8], inbox: &mut [u8], store: &mut [u8], out: &mut [u8]) -> Played
+    ensures { λ r. ⌜ playing r (station (now (session .exit)) (now (inbox .exit)) (now (store .exit))) (now (out .exit)) ≡ playStartOf (station (now (session .entry)) (now (inbox .entry)) (now (store .entry))) (now (out .entry)) ⌝ }
 {
     let answer = called_station::open(session, inbox, store);
     taken(answer, session, inbox, store, out, 0)
 }
 
 // One byte in, and all that waits out.
-fn step(
+fn play_byte(
     p: Played,
     b: u8,
     session: &mut [u8],
@@ -50,7 +50,7 @@ fn step(
     store: &mut [u8],
     out: &mut [u8],
 ) -> Played
-    ensures { λ r. ⌜ playing r (station (now (session .exit)) (now (inbox .exit)) (now (store .exit))) (now (out .exit)) ≡ stepOf (playing p (station (now (session .entry)) (now (inbox .entry)) (now (store .entry))) (now (out .entry))) b ⌝ }
+    ensures { λ r. ⌜ playing r (station (now (session .exit)) (now (inbox .exit)) (now (store .exit))) (now (out .exit)) ≡ playStepOf (playing p (station (now (session .entry)) (now (inbox .entry)) (now (store .entry))) (now (out .entry))) b ⌝ }
 {
     let one = [b];
     let answer = called_station::hear(session, inbox, store, &one);
@@ -74,7 +74,7 @@ pub fn play(
     };
     let mut i = 0;
     while i < bytes.len() {
-        p = step(p, bytes[i], session, inbox, store, out);
+        p = play_byte(p, bytes[i], session, inbox, store, out);
         if p.over {
             return p;
         }

@@ -20,8 +20,8 @@ sum-append (b ∷ x) y = rw (sum-append x y) (omega arith)
 
 -- ---------------------------------------------------------------- one by one
 
-pub starts : (t : ℕ) → t < byteValues → t ≡ (t + 0) % byteValues
-starts t h = omega arith
+pub sum-starts : (t : ℕ) → t < byteValues → t ≡ (t + 0) % byteValues
+sum-starts t h = omega arith
 
 -- one byte more: r is t and the first i bytes
 pub byte-more : (s : Bytes) (i t r : ℕ) → i < length s → r ≡ (t + byteSum (take i s)) % byteValues → (r + getD s i 0) % byteValues ≡ (t + byteSum (take (i + 1) s)) % byteValues
@@ -144,8 +144,8 @@ turns-all s i l a b c d p q r e A B P C D Q R = R ∙ rw (P, Q, A, B, C, D) (fou
 -- ---------------------------------------------------------------- turns, rounds and the rest
 
 -- no byte
-pub none-more : (s : Bytes) (t : ℕ) → t < byteValues → length s ≡ 0 → t ≡ (t + byteSum s) % byteValues
-none-more s t h e = bytes-all s 0 t t (omega arith) (starts t h)
+pub no-byte-more : (s : Bytes) (t : ℕ) → t < byteValues → length s ≡ 0 → t ≡ (t + byteSum s) % byteValues
+no-byte-more s t h e = bytes-all s 0 t t (omega arith) (sum-starts t h)
 
 -- fewer bytes than a turn's: nothing was summed before
 pub from-none : (n r : ℕ) → r ≡ (0 + n) % byteValues → r ≡ n % byteValues

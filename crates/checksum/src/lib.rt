@@ -8,9 +8,9 @@ ghost use Rattle.checksum.specs.Lanes.{lanesSum, fourSum, roundSize, tur
 ghost use Rattle.grammar.specs.Bytes.{byteValues};
 
 // Bytes of a round.
-const ROUND: usize = 8;
+const ROUND_BYTES: usize = 8;
 // Bytes of a turn: four rounds, each into lanes of its own.
-const TURN: usize = 4 * ROUND;
+const TURN_BYTES: usize = 4 * ROUND_BYTES;
 
 // Eight lanes: the sums of each round's first bytes, of its second ones, and so on.
 struct Lanes {
@@ -106,9 +106,9 @@ fn turn(f: Four, s: &[u8]) -> Four
 {
     Four {
         t: round(f.t, s),
-        u: round(f.u, &s[ROUND..]),
-        v: round(f.v, &s[2 * ROUND..]),
-        w: round(f.w, &s[3 * ROUND..]),
+        u: round(f.u, &s[ROUND_BYTES..]),
+        v: round(f.v, &s[2 * ROUND_BYTES..]),
+        w: round(f.w, &s[3 * ROUND_BYTES..]),
     }
 }
 
@@ -118,7 +118,7 @@ fn turns(s: &[u8]) -> Summed
     requires { ⌜ turnSize ≤ length (now s) ⌝ }
     ensures { λ r. ⌜ (r .at ≡ length (now (s .entry)) - length (now (s .entry)) % turnSize) × (r .sum ≡ byteSum (take (r .at) (now (s .entry))) % byteValues) ⌝ }
 {
-    let last = s.len() - TURN;
+    let last = s.len() - TURN_BYTES;
     let mut f = Four {
         t: empty(),
         u: empty(),
@@ -128,7 +128,7 @@ fn turns(s: &[u8]) -> Summed
     let mut i = 0;
     while i <= last {
         f = turn(f, &s[i..]);
-        i += TURN;
+        i += TURN_BYTES;
     }
     let sum = add(add(folded(f.t), folded(f.u)), add(folded(f.v), folded(f.w)));
     Summed { sum: sum, at: i }
@@ -143,7 +143,7 @@ fn rounds(t: u8, s: &[u8]) -> u8
     let mut i = 0;
     while i < s.len() {
         u = round(u, &s[i..]);
-        i += ROUND;
+        i += ROUND_BYTES;
     }
     add(t, folded(u))
 }
@@ -155,10 +155,10 @@ fn rest(t: u8, s: &[u8]) -> u8
     if s.len() == 0 {
         return t;
     }
-    if s.len() < ROUND {
+    if s.len() < ROUND_BYTES {
         return each(t, s);
     }
-    let whole = s.len() - s.len() % ROUND;
+    let whole = s.len() - s.len() % ROUND_BYTES;
     let u = rounds(t, &s[..whole]);
     each(u, &s[whole..])
 }
@@ -169,12 +169,12 @@ fn rest(t: u8, s: &[u8]) -> u8
 pub fn sum(s: &[u8]) -> u8
     ensures { λ r. ⌜ r ≡ byteSum (now (s .entry)) % byteValues ⌝ }
 {
-    if s.len() < TURN {
+    if s.len() < TURN_BYTES {
         return rest(0, &s[..]);
     }
     let x = turns(&s[..]);
     let at = x.at;
-    rest(x.sum, &s[at..at + s.len() % TURN])
+    rest(x.sum, &s[at..at + s.len() % TURN_BYTES])
 }
 
 // The byte that makes the sum of all data bytes plus itself 0 modulo 256.

@@ -8,9 +8,9 @@ ghost use Rattle.copying.specs.Eight.{bytesOf, halfSize, pairSize, strid
 // Half a round, a round, and a turn of the loop.
 const HALF: usize = 8;
 
-const ROUND: usize = 2 * HALF;
+const ROUND_BYTES: usize = 2 * HALF;
 
-const TURN: usize = 2 * ROUND;
+const TURN_BYTES: usize = 2 * ROUND_BYTES;
 
 // Bytes that were read and are not written yet.
 struct Eight {
@@ -73,7 +73,7 @@ fn copy_turn(dst: &mut [u8], src: &[u8])
     ensures { λ _. ⌜ now (dst .exit) ≡ take strideSize (now (src .entry)) ++ drop strideSize (now (dst .entry)) ⌝ }
 {
     copy_round(dst, src);
-    copy_round(&mut dst[ROUND..], &src[ROUND..]);
+    copy_round(&mut dst[ROUND_BYTES..], &src[ROUND_BYTES..]);
 }
 
 // The first n bytes one by one: for callers who copy in one place, or whose n the compiler knows. It is copied into each of them.
@@ -94,11 +94,11 @@ pub fn copy(dst: &mut [u8], src: &[u8], n: usize)
     requires { ⌜ (n ≤ length (now dst)) × (n ≤ length (now src)) ⌝ }
     ensures { λ _. ⌜ now (dst .exit) ≡ take n (now (src .entry)) ++ drop n (now (dst .entry)) ⌝ }
 {
-    let whole = n - n % TURN;
+    let whole = n - n % TURN_BYTES;
     let mut i = 0usize;
     while i < whole {
         copy_turn(&mut dst[i..], &src[i..]);
-        i += TURN;
+        i += TURN_BYTES;
     }
     copy_each(&mut dst[i..], &src[i..], n - i);
 }

@@ -8,7 +8,7 @@ use lib.ListN.{length, getD}
 use borrow.Author.Tests.{eq-eqb, ne-eqb}
 use Rattle.grammar.specs.Bytes.{Bytes, every}
 use Rattle.grammar.specs.Fields.{digit}
-use Rattle.grammar.proofs.Basics.{and-false, both, told, told-not}
+use Rattle.grammar.proofs.Basics.{and-false, both, not-told, told-not}
 use Rattle.grammar.specs.Ascii.{char}
 use Rattle.byte.specs.Classes.{classOf}
 use Rattle.byte.specs.declared.Class.{Class}
@@ -54,7 +54,7 @@ module _ (w : Bytes) where
   -- all are digits: the date that they say decides
   module _ (r : Bool) (e : r ≡ every (classOf Class.Digit) w) (f : not r ≡ false) where
     pub all-digits : every digit w ≡ true
-    all-digits = told (class-digit w r e) f
+    all-digits = not-told (class-digit w r e) f
 
     module _ (d : Date) (t : Bool) (s : d ≡ dateSaid w) (i : t ≡ isDate d) (l : length w ≡ dateLength) where
       pub date-not : not t ≡ true → none ≡ readDate w
@@ -63,7 +63,7 @@ module _ (w : Bytes) where
 
       pub date-says : not t ≡ false → some d ≡ readDate w
       unfolding readDate
-      date-says k = rw (digits-are dateLength w l all-digits, ← s, told i k)
+      date-says k = rw (digits-are dateLength w l all-digits, ← s, not-told i k)
 
     module _ (d : Time) (t : Bool) (s : d ≡ timeSaid w) (i : t ≡ isTime d) (l : length w ≡ timeLength) where
       pub time-not : not t ≡ true → none ≡ readTime w
@@ -72,7 +72,7 @@ module _ (w : Bytes) where
 
       pub time-says : not t ≡ false → some d ≡ readTime w
       unfolding readTime
-      time-says k = rw (digits-are timeLength w l all-digits, ← s, told i k)
+      time-says k = rw (digits-are timeLength w l all-digits, ← s, not-told i k)
 
 -- what the pairs say
 pub said-date : (w : Bytes) (y m d : ℕ) (f : ℕ → ℕ) (year : ℕ) → y ≡ pairAt w 0 → m ≡ pairAt w monthPlace → d ≡ pairAt w dayPlace → year ≡ f y

@@ -8,7 +8,7 @@ use native.Mathlib.Nat.{mul-add-mod-self-left, mul-add-div, mod-eq-of-lt}
 use lib.Dec.{eqb, ltb, leb}
 use borrow.Author.Tests.{eq-eqb, ne-eqb, lt-ltb, le-ltb, le-leb, lt-leb, leb-true, ltb-true, ltb-false, eqb-true, eqb-false}
 use Rattle.grammar.proofs.Basics.{and2, both, or-second}
-use Rattle.dates.specs.Dates.{Date, isLeap, startOf, daysIn, isDate, dayNumber, monthOf, yearIn, yearStart, dateIn, dateOf, firstYear, lastYear, cycleYears, yearDays, longYearDays, lastMonth, cycleDays, longYear, thirdYear, fourthYear, allDays, allYears, mostDays}
+use Rattle.dates.specs.Dates.{Date, isLeap, monthStart, daysIn, isDate, dayNumber, monthOf, yearIn, yearStart, dateIn, dateOf, firstYear, lastYear, cycleYears, yearDays, longYearDays, lastMonth, cycleDays, longYear, thirdYear, fourthYear, allDays, allYears, mostDays}
 
 -- ---------------------------------------------------------------- a test over the numbers below n
 
@@ -31,11 +31,11 @@ below-at (suc n) p e k h = go (eqb k n) refl (λ l. below-at n p ((and2 (p n) (b
 dayTest : Bool → ℕ → Bool
 dayTest leap t =
     (leb 1 (monthOf leap t) && leb (monthOf leap t) lastMonth)
-    && (leb (startOf leap (monthOf leap t)) t && leb (t - startOf leap (monthOf leap t) + 1) (daysIn leap (monthOf leap t)))
+    && (leb (monthStart leap (monthOf leap t)) t && leb (t - monthStart leap (monthOf leap t) + 1) (daysIn leap (monthOf leap t)))
 
 -- day d + 1 of month m + 1 is in that month
 monthTest : Bool → ℕ → ℕ → Bool
-monthTest leap m d = leb (daysIn leap (m + 1)) d || eqb (monthOf leap (startOf leap (m + 1) + d)) (m + 1)
+monthTest leap m d = leb (daysIn leap (m + 1)) d || eqb (monthOf leap (monthStart leap (m + 1) + d)) (m + 1)
 
 abbrev lengthOf : Bool → ℕ
 lengthOf true = longYearDays
@@ -53,7 +53,7 @@ all-months false = refl
 
 -- the same for the ends of months: within the year, and at most 31 days
 endTest : Bool → ℕ → Bool
-endTest leap m = leb (startOf leap (m + 1) + daysIn leap (m + 1)) (lengthOf leap) && leb (daysIn leap (m + 1)) mostDays
+endTest leap m = leb (monthStart leap (m + 1) + daysIn leap (m + 1)) (lengthOf leap) && leb (daysIn leap (m + 1)) mostDays
 
 all-ends : (leap : Bool) → below lastMonth (endTest leap) ≡ true
 unfolding below endTest
@@ -63,8 +63,8 @@ all-ends false = refl
 record InYear (leap : Bool) (t : ℕ) : Type 0 where
   least : 1 ≤ monthOf leap t
   most : monthOf leap t ≤ lastMonth
-  starts : startOf leap (monthOf leap t) ≤ t
-  within : t - startOf leap (monthOf leap t) + 1 ≤ daysIn leap (monthOf leap t)
+  starts : monthStart leap (monthOf leap t) ≤ t
+  within : t - monthStart leap (monthOf leap t) + 1 ≤ daysIn leap (monthOf leap t)
 
 in-year : (leap : Bool) (t : ℕ) → t < lengthOf leap → InYear leap t
 unfolding dayTest
@@ -72,12 +72,12 @@ in-year leap t h =
     let e = below-at (lengthOf leap) (dayTest leap) (all-days leap) t h in
     let p = and2 (leb 1 (monthOf leap t) && leb (monthOf leap t) lastMonth) _ e in
     let q = and2 (leb 1 (monthOf leap t)) (leb (monthOf leap t) lastMonth) (p .0) in
-    let r = and2 (leb (startOf leap (monthOf leap t)) t) _ (p .1) in
+    let r = and2 (leb (monthStart leap (monthOf leap t)) t) _ (p .1) in
     record {
       least = leb-true 1 (monthOf leap t) (q .0);
       most = leb-true (monthOf leap t) lastMonth (q .1);
-      starts = leb-true (startOf leap (monthOf leap t)) t (r .0);
-      within = leb-true (t - startOf leap (monthOf leap t) + 1) (daysIn leap (monthOf leap t)) (r .1);
+      starts = leb-true (monthStart leap (monthOf leap t)) t (r .0);
+      within = leb-true (t - monthStart leap (monthOf leap t) + 1) (daysIn leap (monthOf leap t)) (r .1);
     }
 
 -- ---------------------------------------------------------------- from a number to its date and back
@@ -105,8 +105,8 @@ placed-date n y leap t h =
     both (leb firstYear y && leb y lastYear) _ (both (leb firstYear y) (leb y lastYear) (le-leb firstYear y (h .least)) (le-leb y lastYear (h .most)))
     (both (leb 1 (monthOf leap t) && leb (monthOf leap t) lastMonth) _
     (both (leb 1 (monthOf leap t)) (leb (monthOf leap t) lastMonth) (le-leb 1 (monthOf leap t) (i .least)) (le-leb (monthOf leap t) lastMonth (i .most)))
-    (both (leb 1 (t - startOf leap (monthOf leap t) + 1)) _ (le-leb 1 (t - startOf leap (monthOf leap t) + 1) (omega arith))
-    (rw (h .year) (le-leb (t - startOf leap (monthOf leap t) + 1) (daysIn leap (monthOf leap t)) (i .within)))))
+    (both (leb 1 (t - monthStart leap (monthOf leap t) + 1)) _ (le-leb 1 (t - monthStart leap (monthOf leap t) + 1) (omega arith))
+    (rw (h .year) (le-leb (t - monthStart leap (monthOf leap t) + 1) (daysIn leap (monthOf leap t)) (i .within)))))
 
 placed : (n : ℕ) → n < allDays → Placed n (firstYear + cycleYears * (n / cycleDays) + yearIn (n % cycleDays)) (eqb (yearIn (n % cycleDays)) longYear) (n % cycleDays - yearStart (yearIn (n % cycleDays)))
 placed n h = go (ltb (n % cycleDays) yearDays) refl (ltb (n % cycleDays) thirdYear) refl (ltb (n % cycleDays) fourthYear) refl
@@ -147,9 +147,9 @@ pub record Valid (d : Date) : Type 0 where
   pub day : 1 ≤ d .day
   pub days : d .day ≤ daysIn (isLeap (d .year)) (d .month)
 
-pub valid : (d : Date) → isDate d ≡ true → Valid d
+pub date-valid : (d : Date) → isDate d ≡ true → Valid d
 unfolding isDate
-valid d e =
+date-valid d e =
     let p = and2 (leb firstYear (d .year) && leb (d .year) lastYear) _ e in
     let q = and2 (leb firstYear (d .year)) (leb (d .year) lastYear) (p .0) in
     let r = and2 (leb 1 (d .month) && leb (d .month) lastMonth) _ (p .1) in
@@ -166,17 +166,17 @@ valid d e =
 
 -- the day of the year is in the month, and the year is long enough
 month-back : (leap : Bool) (m d : ℕ) → 1 ≤ m → m ≤ lastMonth → 1 ≤ d → d ≤ daysIn leap m
-    → (monthOf leap (startOf leap m + (d - 1)) ≡ m) × (startOf leap m + (d - 1) < lengthOf leap)
+    → (monthOf leap (monthStart leap m + (d - 1)) ≡ m) × (monthStart leap m + (d - 1) < lengthOf leap)
 unfolding monthTest endTest
 month-back leap (suc m) d h k i j =
     let one : suc m ≡ m + 1 = omega arith in
-    let x = and2 (leb (startOf leap (m + 1) + daysIn leap (m + 1)) (lengthOf leap)) (leb (daysIn leap (m + 1)) mostDays) (below-at lastMonth (endTest leap) (all-ends leap) m (omega arith)) in
+    let x = and2 (leb (monthStart leap (m + 1) + daysIn leap (m + 1)) (lengthOf leap)) (leb (daysIn leap (m + 1)) mostDays) (below-at lastMonth (endTest leap) (all-ends leap) m (omega arith)) in
     let j′ : d ≤ daysIn leap (m + 1) = subst (λ (z : ℕ). d ≤ daysIn leap z) one j in
     let y = leb-true (daysIn leap (m + 1)) mostDays (x .1) in
-    let w = leb-true (startOf leap (m + 1) + daysIn leap (m + 1)) (lengthOf leap) (x .0) in
+    let w = leb-true (monthStart leap (m + 1) + daysIn leap (m + 1)) (lengthOf leap) (x .0) in
     let e = below-at mostDays (monthTest leap m) (below-at lastMonth (λ (z : ℕ). below mostDays (monthTest leap z)) (all-months leap) m (omega arith)) (d - 1) (omega arith) in
     let f = or-second (leb (daysIn leap (m + 1)) (d - 1)) _ (lt-leb (daysIn leap (m + 1)) (d - 1) (omega arith)) e in
-    rw one (eqb-true (monthOf leap (startOf leap (m + 1) + (d - 1))) (m + 1) f, omega arith)
+    rw one (eqb-true (monthOf leap (monthStart leap (m + 1) + (d - 1))) (m + 1) f, omega arith)
 month-back leap zero d h k i j = absurd (omega arith)
 
 -- no month has more than 31 days
@@ -184,7 +184,7 @@ pub days-most : (leap : Bool) (m : ℕ) → 1 ≤ m → m ≤ lastMonth → days
 unfolding endTest
 days-most leap (suc m) h k =
     let one : suc m ≡ m + 1 = omega arith in
-    let x = and2 (leb (startOf leap (m + 1) + daysIn leap (m + 1)) (lengthOf leap)) (leb (daysIn leap (m + 1)) mostDays) (below-at lastMonth (endTest leap) (all-ends leap) m (omega arith)) in
+    let x = and2 (leb (monthStart leap (m + 1) + daysIn leap (m + 1)) (lengthOf leap)) (leb (daysIn leap (m + 1)) mostDays) (below-at lastMonth (endTest leap) (all-ends leap) m (omega arith)) in
     rw one (leb-true (daysIn leap (m + 1)) mostDays (x .1))
 days-most leap zero h k = absurd (omega arith)
 
@@ -250,9 +250,9 @@ year-back k t h l = go (k % cycleYears) refl (omega arith)
 pub date-back : (d : Date) → isDate d ≡ true → (dateOf (dayNumber d) ≡ d) × (dayNumber d < allDays)
 unfolding dateOf dayNumber
 date-back d e =
-    let v = valid d e in
+    let v = date-valid d e in
     let leap : Bool = isLeap (d .year) in
-    let t : ℕ = startOf leap (d .month) + (d .day - 1) in
+    let t : ℕ = monthStart leap (d .month) + (d .day - 1) in
     let m = month-back leap (d .month) (d .day) (v .month) (v .months) (v .day) (v .days) in
     let k : ℕ = d .year - firstYear in
     let first = v .first in
@@ -265,7 +265,7 @@ date-back d e =
           (ap (λ (z : ℕ). dateIn z (eqb (yearIn ((yearDays * k + (k + 1) / cycleYears + t) % cycleDays)) longYear) ((yearDays * k + (k + 1) / cycleYears + t) % cycleDays - yearStart (yearIn ((yearDays * k + (k + 1) / cycleYears + t) % cycleDays)))) (b .0 ∙ y)
           ∙ ap (λ (z : Bool). dateIn (d .year) z ((yearDays * k + (k + 1) / cycleYears + t) % cycleDays - yearStart (yearIn ((yearDays * k + (k + 1) / cycleYears + t) % cycleDays)))) (b .1 ∙ ap isLeap y)
           ∙ ap (dateIn (d .year) leap) (b .2)
-          ∙ ap (λ (z : ℕ). record { year = d .year; month = z; day = t - startOf leap z + 1 }) (m .0)
+          ∙ ap (λ (z : ℕ). record { year = d .year; month = z; day = t - monthStart leap z + 1 }) (m .0)
           ∙ ap (λ (z : ℕ). record { year = d .year; month = d .month; day = z }) (omega arith)),
       rw n (b .3),
     )

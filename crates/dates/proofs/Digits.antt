@@ -11,7 +11,7 @@ use Rattle.grammar.proofs.Basics.{and2}
 use Rattle.grammar.specs.Ascii.{char}
 use Rattle.dates.specs.Dates.{Date, Time, isDate, isTime, isLeap, firstYear, lastYear, lastHour, lastMinute}
 use Rattle.dates.specs.Digits.{fullYear, digits, dateSaid, timeSaid, readDate, readTime, dateText, timeText, turnYear, lastCentury, thisCentury, pairValues, dateLength, timeLength}
-use Rattle.dates.proofs.Dates.{Valid, valid, days-most}
+use Rattle.dates.proofs.Dates.{Valid, date-valid, days-most}
 
 digit-of : (d : ℕ) → d < decimalBase → digit (char "0" + d) ≡ true
 digit-of d h = rw (le-ltb (char "0" + d) (char "0") (omega arith)) (lt-ltb (char "0" + d) digitsEnd (omega arith))
@@ -66,7 +66,7 @@ date-digits d v h =
 pub date-text-back : (d : Date) → isDate d ≡ true → readDate (dateText d) ≡ some d
 unfolding readDate
 date-text-back d e =
-    let v = valid d e in
+    let v = date-valid d e in
     let most = days-most (isLeap (d .year)) (d .month) (v .month) (v .months) in
     let days = v .days in
     let h : d .day < pairValues = omega arith in

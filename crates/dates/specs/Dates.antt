@@ -66,11 +66,11 @@ abbrev pub monthStarts : Bool → List ℕ
 monthStarts false = 0 ∷ 31 ∷ 59 ∷ 90 ∷ 120 ∷ 151 ∷ 181 ∷ 212 ∷ 243 ∷ 273 ∷ 304 ∷ 334 ∷ yearDays ∷ []
 monthStarts true = 0 ∷ 31 ∷ 60 ∷ 91 ∷ 121 ∷ 152 ∷ 182 ∷ 213 ∷ 244 ∷ 274 ∷ 305 ∷ 335 ∷ longYearDays ∷ []
 
-abbrev pub startOf : Bool → ℕ → ℕ
-startOf leap m = getD (monthStarts leap) (m - 1) 0
+abbrev pub monthStart : Bool → ℕ → ℕ
+monthStart leap m = getD (monthStarts leap) (m - 1) 0
 
 abbrev pub daysIn : Bool → ℕ → ℕ
-daysIn leap m = getD (monthStarts leap) m 0 - startOf leap m
+daysIn leap m = getD (monthStarts leap) m 0 - monthStart leap m
 
 -- The table has the months' lengths that everybody knows.
 abbrev months : List ℕ
@@ -96,7 +96,7 @@ isTime t = leb (t .hour) lastHour && leb (t .minute) lastMinute
 
 -- 1972 is the first long year, so (year - 1969) / 4 long years lie before a year.
 unfoldable pub dayNumber : Date → ℕ
-dayNumber d = yearDays * (d .year - firstYear) + (d .year - (firstYear - 1)) / cycleYears + (startOf (isLeap (d .year)) (d .month) + (d .day - 1))
+dayNumber d = yearDays * (d .year - firstYear) + (d .year - (firstYear - 1)) / cycleYears + (monthStart (isLeap (d .year)) (d .month) + (d .day - 1))
 
 -- The last month that starts by day t of the year; ms: the starts of the months after m.
 abbrev pub monthFrom : ℕ → List ℕ → ℕ → ℕ
@@ -132,7 +132,7 @@ yearStart i = getD (0 ∷ yearDays ∷ thirdYear ∷ fourthYear ∷ []) i 0
 
 -- Day t, from 0, of a year.
 abbrev pub dateIn : ℕ → Bool → ℕ → Date
-dateIn y leap t = record { year = y; month = monthOf leap t; day = t - startOf leap (monthOf leap t) + 1 }
+dateIn y leap t = record { year = y; month = monthOf leap t; day = t - monthStart leap (monthOf leap t) + 1 }
 
 -- So many days have the hundred years, which are 25 cycles.
 abbrev pub allDays : ℕ

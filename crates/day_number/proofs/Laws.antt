@@ -9,14 +9,14 @@ use lib.Dec.{eqb, ltb}
 use lib.ListN.{length, getD, drop}
 use lib.Seq.{drop-cons}
 use borrow.Author.Tests.{lt-ltb, le-ltb, ltb-true, ltb-false}
-use Rattle.dates.specs.Dates.{Date, isDate, isLeap, monthStarts, startOf, dayNumber, monthFrom, monthOf, yearIn, yearStart, dateOf, firstYear, cycleYears, yearDays, longYearDays, lastMonth, cycleDays, longYear, thirdYear, fourthYear, allDays, mostDays}
-use Rattle.dates.proofs.Dates.{Valid, valid, number-back, days-most}
+use Rattle.dates.specs.Dates.{Date, isDate, isLeap, monthStarts, monthStart, dayNumber, monthFrom, monthOf, yearIn, yearStart, dateOf, firstYear, cycleYears, yearDays, longYearDays, lastMonth, cycleDays, longYear, thirdYear, fourthYear, allDays, mostDays}
+use Rattle.dates.proofs.Dates.{Valid, date-valid, number-back, days-most}
 use Rattle.day_number.specs.Meaning.{yearLength, MonthIs}
 
 -- ---------------------------------------------------------------- months
 
-pub start-by : (leap b : Bool) (m r : ℕ) → leap ≡ b → r ≡ startOf b m → r ≡ startOf leap m
-start-by leap b m r e f = f ∙ sym (ap (λ (x : Bool). startOf x m) e)
+pub start-by : (leap b : Bool) (m r : ℕ) → leap ≡ b → r ≡ monthStart b m → r ≡ monthStart leap m
+start-by leap b m r e f = f ∙ sym (ap (λ (x : Bool). monthStart x m) e)
 
 starts-length : (leap : Bool) → length (monthStarts leap) ≡ lastMonth + 1
 starts-length true = refl
@@ -27,7 +27,7 @@ pub record Months (leap : Bool) (day m : ℕ) : Type 0 where
   pub left : monthOf leap day ≡ monthFrom m (drop m (monthStarts leap)) day
   pub least : 1 ≤ m
   pub most : m ≤ lastMonth
-  pub starts : startOf leap m ≤ day
+  pub starts : monthStart leap m ≤ day
 
 pub months-all : (leap : Bool) (day : ℕ) → Months leap day 1
 months-all true day = record { left = refl; least = omega arith; most = omega arith; starts = omega arith }
@@ -37,10 +37,10 @@ module _ (leap : Bool) (day m : ℕ) (k : Months leap day m) where
   step : monthOf leap day ≡ cond (ltb day (getD (monthStarts leap) m 0)) m (monthFrom (suc m) (drop (suc m) (monthStarts leap)) day)
   step = let n = starts-length leap in let l = k .most in k .left ∙ rw (drop-cons (monthStarts leap) m 0 (omega (arith, n, l)))
 
-  next-start : startOf leap (m + 1) ≡ getD (monthStarts leap) m 0
+  next-start : monthStart leap (m + 1) ≡ getD (monthStarts leap) m 0
   next-start = ap (λ (i : ℕ). getD (monthStarts leap) i 0) (let z : m + 1 - 1 ≡ m = omega arith in z)
 
-  module _ (s : ℕ) (e : s ≡ startOf leap (m + 1)) where
+  module _ (s : ℕ) (e : s ≡ monthStart leap (m + 1)) where
     pub month-found : day < s → MonthIs leap day m
     month-found h =
         let f = e ∙ next-start in
@@ -71,9 +71,9 @@ module _ (leap : Bool) (day m : ℕ) (k : Months leap day m) where
 -- ---------------------------------------------------------------- the number of a date
 
 pub date-fits : (d : Date) → isDate d ≡ true → Valid d
-date-fits d e = valid d e
+date-fits d e = date-valid d e
 
-pub number-is : (d : Date) (years long start day : ℕ) → isDate d ≡ true → years ≡ d .year - firstYear → long ≡ (d .year - (firstYear - 1)) / cycleYears → start ≡ startOf (isLeap (d .year)) (d .month) → day ≡ d .day - 1
+pub number-is : (d : Date) (years long start day : ℕ) → isDate d ≡ true → years ≡ d .year - firstYear → long ≡ (d .year - (firstYear - 1)) / cycleYears → start ≡ monthStart (isLeap (d .year)) (d .month) → day ≡ d .day - 1
     → yearDays * years + long + (start + day) ≡ dayNumber d
 unfolding dayNumber
 number-is d years long start day e a b c f = rw (a, b, c, f)
@@ -118,7 +118,7 @@ module _ (n y : ℕ) (h : n < allDays) (e : y ≡ yearIn (n % cycleDays)) where
     pub day-within : n % cycleDays - z < yearLength (eqb y longYear)
     day-within = rw (start-is, e) (cycle-of .day)
 
-    module _ (m : ℕ) (g : m ≡ monthOf (eqb y longYear) (n % cycleDays - z)) (s : ℕ) (k : s ≡ startOf (eqb y longYear) m) where
+    module _ (m : ℕ) (g : m ≡ monthOf (eqb y longYear) (n % cycleDays - z)) (s : ℕ) (k : s ≡ monthStart (eqb y longYear) m) where
       pub date-is : _≡_ {A = Date} (record { year = firstYear + cycleYears * (n / cycleDays) + y; month = m; day = n % cycleDays - z - s + 1 }) (dateOf n)
       unfolding dateOf
       date-is = rw (k, g, start-is, e)
@@ -126,7 +126,7 @@ module _ (n y : ℕ) (h : n < allDays) (e : y ≡ yearIn (n % cycleDays)) where
       -- no month has more than 31 days
       pub day-most : n % cycleDays - z - s + 1 ≤ mostDays
       day-most =
-          let v = valid (dateOf n) ((number-back n h) .1) in
+          let v = date-valid (dateOf n) ((number-back n h) .1) in
           let a = days-most (isLeap ((dateOf n) .year)) ((dateOf n) .month) (v .month) (v .months) in
           let b = v .days in
           let q = ap (λ (x : Date). x .day) date-is in

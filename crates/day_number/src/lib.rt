@@ -3,7 +3,7 @@ use calendar::Date;
 ghost use mathlib.Core.Path.{_≡_};
 ghost use mathlib.Core.Bool.{true, false};
 ghost use Prim.Native.Nat.{_≤_, _<_};
-ghost use Rattle.dates.specs.Dates.{isDate, startOf, dayNumber, yearIn, yearStart, dateOf, lastMonth, cycleYears, allDays};
+ghost use Rattle.dates.specs.Dates.{isDate, monthStart, dayNumber, yearIn, yearStart, dateOf, lastMonth, cycleYears, allDays};
 ghost use Rattle.calendar.specs.Meaning.{dateIs};
 ghost use Rattle.day_number.specs.Meaning.{yearLength, MonthIs};
 
@@ -31,7 +31,7 @@ const FOURTH_YEAR: u32 = THIRD_YEAR + LONG_YEAR_DAYS;
 // How many days of a long year come before a month.
 fn long_start(month: u8) -> u16
     requires { ⌜ (1 ≤ month) × (month ≤ lastMonth) ⌝ }
-    ensures { λ r. ⌜ r ≡ startOf true month ⌝ }
+    ensures { λ r. ⌜ r ≡ monthStart true month ⌝ }
 {
     let starts = [
         0u16,
@@ -55,7 +55,7 @@ fn long_start(month: u8) -> u16
 // How many days of a short year come before a month.
 fn short_start(month: u8) -> u16
     requires { ⌜ (1 ≤ month) × (month ≤ lastMonth) ⌝ }
-    ensures { λ r. ⌜ r ≡ startOf false month ⌝ }
+    ensures { λ r. ⌜ r ≡ monthStart false month ⌝ }
 {
     let starts = [
         0u16,
@@ -79,7 +79,7 @@ fn short_start(month: u8) -> u16
 // How many days of the year come before a month.
 fn start_of(leap: bool, month: u8) -> u16
     requires { ⌜ (1 ≤ month) × (month ≤ lastMonth) ⌝ }
-    ensures { λ r. ⌜ r ≡ startOf leap month ⌝ }
+    ensures { λ r. ⌜ r ≡ monthStart leap month ⌝ }
 {
     if leap {
         return long_start(month);

@@ -16,7 +16,7 @@ use Rattle.session.specs.Calls.{Received, receive, give}
 use Rattle.demand2.specs.Limits.{recordLimit}
 use Rattle.demand2.specs.Refusals.{WholeLine, SoFar, Live}
 use Rattle.demand2.specs.Marks.{withSign, AnswerLeaves}
-use Rattle.demand2.specs.Events.{messageFrom, withMessage, endsWithCr, Event, lfGoes, lineGrows, ignored, sidOfCaller, sidOfCalled, textLine, prompt, proposal, ffTurn, fqTurn, blockEnd, fsLineComes, transferGrows, transferWhole}
+use Rattle.demand2.specs.Events.{messageFrom, withMessage, endsWithCr, Happens, lfGoes, lineGrows, ignored, sidOfCaller, sidOfCalled, textLine, prompt, proposal, ffTurn, fqTurn, blockEnd, fsLineComes, transferGrows, transferWhole}
 use Rattle.demand2.specs.Reached.{Reached, atOpen, received, given, AnswerExact}
 use Rattle.demand2.proofs.Situations.{refuses-with}
 use Rattle.demand2.proofs.Refusals.{Found, happened, found, byte-found}
@@ -34,7 +34,7 @@ counted-flags : (E : Shelf) (ps : List Proposal) (m : Memory) → flags (turnCou
 counted-flags E [] m = refl
 counted-flags E (p ∷ ps) m = refl
 
-event-flags : (E : Shelf) (q : Bytes) (s : Session) (b : ℕ) (t : Session) → Event E q s b t → flags (t .memory) ≡ flags (s .memory)
+event-flags : (E : Shelf) (q : Bytes) (s : Session) (b : ℕ) (t : Session) → Happens E q s b t → flags (t .memory) ≡ flags (s .memory)
 event-flags E q s b t (lfGoes e) = refl
 event-flags E q s b t (lineGrows h a e l) = refl
 event-flags E q s b t (ignored h a e c) = refl

@@ -25,7 +25,7 @@ use Rattle.demand2.specs.Limits.{lineLimit, blockLimit}
 use Rattle.demand2.specs.Room.{room}
 use Rattle.demand2.specs.Marks.{withSign, AnswerLeaves, TurnLeaves}
 use Rattle.demand2.specs.Refusals.{isDropped, Heeded, awaitsLine, WholeLine, TurnSaid, SoFar, TransferByte}
-use Rattle.demand2.specs.Events.{messageFrom, withMessage, metBy, endsWithCr, proposed, blockText, transfersSaid, turnSaid, turnAwaits, countsProposed, weSpeak, transfersOr, signOnSaid, EndsBlock, bare, summed, Event, lfGoes, lineGrows, ignored, sidOfCaller, sidOfCalled, textLine, prompt, proposal, ffTurn, fqTurn, blockEnd, fsLineComes, transferGrows, transferWhole}
+use Rattle.demand2.specs.Events.{messageFrom, withMessage, metBy, endsWithCr, proposed, blockText, transfersSaid, turnSaid, turnAwaits, countsProposed, weSpeak, transfersOr, signOnSaid, EndsBlock, bare, summed, Happens, lfGoes, lineGrows, ignored, sidOfCaller, sidOfCalled, textLine, prompt, proposal, ffTurn, fqTurn, blockEnd, fsLineComes, transferGrows, transferWhole}
 use Rattle.demand2.proofs.Limits.{level-between}
 use Rattle.demand2.proofs.Room.{fits-within}
 use Rattle.demand2.proofs.Marks.{accepted-is, answer-marks, turn-marks, answer-only, turn-only}
@@ -136,7 +136,7 @@ module _ (E : Shelf) (q : Bytes) (s : Session) (b : ℕ) where
         → step E s b ≡ transferMoved E p (t .others) s o
     goes-transfer p sc t o e = transfer-step E s b p sc t ∙ ap (transferMoved E p (t .others) s) e
 
-    pub happens : (t : Session) → Event E q s b t → step E s b ≡ moved t
+    pub happens : (t : Session) → Happens E q s b t → step E s b ≡ moved t
     happens t (lfGoes e) = goes-lf e
     happens t (lineGrows h a e l) = goes-line h a e l
     happens t (ignored h a e c) = goes-ignored h a e c

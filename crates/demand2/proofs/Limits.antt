@@ -11,8 +11,8 @@ use Rattle.grammar.specs.Sid as sid
 use Rattle.demand2.specs.Limits.{LimitsAre, letterB, levelBetween}
 
 -- THE SAME LEVEL between two SIDs
-pub level-between : (fs : List ℕ) → sid.levelInForce fs ≡ levelBetween fs
-unfolding sid.levelInForce
+pub level-between : (fs : List ℕ) → sid.levelOfSid fs ≡ levelBetween fs
+unfolding sid.levelOfSid
 level-between fs = go (getD fs letterB 0) (ltb 1 (getD fs letterB 0 - 1)) refl (ltb 1 (getD fs letterB 0)) refl
   where
     go : (n : ℕ) (c : Bool) → ltb 1 (n - 1) ≡ c → (d : Bool) → ltb 1 n ≡ d → cond c 1 (n - 1) ≡ cond d 1 0

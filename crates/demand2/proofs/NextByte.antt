@@ -20,7 +20,7 @@ use Rattle.demand2.proofs.Refusals.{apart, complete}
 use Rattle.demand2.proofs.Ended.{live-exact, twelve}
 use Rattle.demand2.proofs.OurTurn.{block-only, turn-exact}
 use Rattle.demand2.proofs.OurAnswers.{answers-exact}
-use Rattle.demand2.proofs.Portions.{receive-byte, two-portions, counted, no-bytes, two-rooms, handed-out, fq-given}
+use Rattle.demand2.proofs.Portions.{receive-byte, two-portions, receive-counts, no-bytes, two-rooms, handed-out, fq-given}
 use Rattle.demand2.proofs.Reasons.{into-nothing, says-why, quiet-end}
 use Rattle.demand2.proofs.Reached.{reached-sound, exact-reached}
 use Rattle.demand2.proofs.Answered.{answer-reached}
@@ -62,7 +62,7 @@ module _ (E : Shelf) (s : Session) (q : Bytes) (R : Reached E s q) where
         lines = λ a. line-whole E (s .phase) a (s .memory);
         transfers = λ p ps. transfer-kept E p ps (s .memory);
         portions = λ L xs ys. two-portions E s xs ys L;
-        counted = λ L bs. counted E s bs L;
+        counted = λ L bs. receive-counts E s bs L;
         noBytes = λ L. no-bytes E s L;
         gives = λ room. handed-out s room;
         rooms = λ a b. two-rooms s a b;

@@ -19,7 +19,7 @@ use Rattle.grammar.proofs.Bids.{one-bid, bid-one}
 use Rattle.mail.specs.Mail.{Record, Message, accepted}
 use Rattle.session.specs.Choices.{Shelf, among, recordBids, messageBids, proposalBids, bodyBytes, announced, haveBid, noRoomFor, signFor, withAccepted, answersAfter, answersTo}
 use Rattle.session.proofs.Choices.{one-sign-each}
-use Rattle.demand2.specs.Limits.{bodyLimit}
+use Rattle.demand2.specs.Limits.{bodyMax}
 use Rattle.demand2.specs.OurAnswers.{Among, HaveBid, inTable, isKnown, inInbox, inBlock, NoRoomFor, tooLong, noStore, noPlace, SignExact, AnswersExact}
 use Rattle.demand2.proofs.Marks.{accepted-is}
 
@@ -89,19 +89,19 @@ module _ (E : Shelf) (inbox : List Message) (acc : List Proposal) where
       go (inBlock h) = or-right (among b ours) _ (or-right (among b (E .known)) _ (or-right (among b kept) _ (out before h)))
 
   room-in : (n : ℕ) → noRoomFor E inbox acc n ≡ true → NoRoomFor E inbox acc n
-  room-in n e = go (ltb bodyLimit n) (ltb (E .bytes - bodyBytes inbox - announced acc) n) refl refl e
+  room-in n e = go (ltb bodyMax n) (ltb (E .bytes - bodyBytes inbox - announced acc) n) refl refl e
     where
-      go : (x y : Bool) → ltb bodyLimit n ≡ x → ltb (E .bytes - bodyBytes inbox - announced acc) n ≡ y
+      go : (x y : Bool) → ltb bodyMax n ≡ x → ltb (E .bytes - bodyBytes inbox - announced acc) n ≡ y
           → x || (y || not (ltb (length inbox + length acc) (E .places))) ≡ true → NoRoomFor E inbox acc n
-      go true y p q e = tooLong (ltb-true bodyLimit n p)
+      go true y p q e = tooLong (ltb-true bodyMax n p)
       go false true p q e = noStore (ltb-true (E .bytes - bodyBytes inbox - announced acc) n q)
       go false false p q e = noPlace (ltb-false (length inbox + length acc) (E .places) (not-true (ltb (length inbox + length acc) (E .places)) e))
 
   room-out : (n : ℕ) → NoRoomFor E inbox acc n → noRoomFor E inbox acc n ≡ true
-  room-out n (tooLong h) = or-left (ltb bodyLimit n) _ (lt-ltb bodyLimit n h)
-  room-out n (noStore h) = or-right (ltb bodyLimit n) _ (or-left (ltb (E .bytes - bodyBytes inbox - announced acc) n) _ (lt-ltb (E .bytes - bodyBytes inbox - announced acc) n h))
+  room-out n (tooLong h) = or-left (ltb bodyMax n) _ (lt-ltb bodyMax n h)
+  room-out n (noStore h) = or-right (ltb bodyMax n) _ (or-left (ltb (E .bytes - bodyBytes inbox - announced acc) n) _ (lt-ltb (E .bytes - bodyBytes inbox - announced acc) n h))
   room-out n (noPlace h) =
-      or-right (ltb bodyLimit n) _ (or-right (ltb (E .bytes - bodyBytes inbox - announced acc) n) _ (ap not (le-ltb (length inbox + length acc) (E .places) h)))
+      or-right (ltb bodyMax n) _ (or-right (ltb (E .bytes - bodyBytes inbox - announced acc) n) _ (ap not (le-ltb (length inbox + length acc) (E .places) h)))
 
   -- ---------------------------------------------------------------- one sign
 

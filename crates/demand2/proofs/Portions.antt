@@ -44,8 +44,8 @@ over-on o e = go (eqb (o .answer) 0) (ended (o .session)) e
     go false d e = refl
 
 -- a portion of one byte is that byte's step
-pub one : (E : Shelf) (s : Session) (b : ℕ) → receiveOn E s (b ∷ []) ≡ stoppedAt (step E s b)
-one E s b = go (stops (step E s b)) refl
+pub one-byte-portion : (E : Shelf) (s : Session) (b : ℕ) → receiveOn E s (b ∷ []) ≡ stoppedAt (step E s b)
+one-byte-portion E s b = go (stops (step E s b)) refl
   where
     go : (c : Bool) → stops (step E s b) ≡ c
         → cond c (stoppedAt (step E s b)) (oneMore (record { answer = 0; count = 0; session = step E s b .session })) ≡ stoppedAt (step E s b)
@@ -56,7 +56,7 @@ one E s b = go (stops (step E s b)) refl
 
 -- RECEIVE ON ONE BYTE
 pub receive-byte : (E : Shelf) (s : Session) (b : ℕ) → Live s → ByteReceived E s b
-receive-byte E s b L = live-receive E s (b ∷ []) L ∙ one E s b
+receive-byte E s b L = live-receive E s (b ∷ []) L ∙ one-byte-portion E s b
 
 -- the same for receiveOn, where the session lives
 abbrev pub on : Shelf → Received → Bytes → Received
@@ -198,8 +198,8 @@ dealt E (x ∷ bs) s L = go (stops (step E s x)) refl (λ l. dealt E bs (step E 
     go false e ih = dealt-more E s x bs (receiveOn E (step E s x .session) bs) e (ih (go-on (step E s x) e .1))
 
 -- RECEIVE COUNTS WHAT IT CONSUMED
-pub counted : (E : Shelf) (s : Session) (bs : Bytes) → Live s → Counted E s bs (receive E s bs)
-counted E s bs L = subst (Counted E s bs) (sym (live-receive E s bs L)) (go (dealt E bs s L))
+pub receive-counts : (E : Shelf) (s : Session) (bs : Bytes) → Live s → Counted E s bs (receive E s bs)
+receive-counts E s bs L = subst (Counted E s bs) (sym (live-receive E s bs L)) (go (dealt E bs s L))
   where
     go : Dealt E s bs (receiveOn E s bs) → Counted E s bs (receiveOn E s bs)
     go (whole l c) = allTaken l c
@@ -231,7 +231,7 @@ count-most E s bs = go (ended s) refl
 
     go : (c : Bool) → ended s ≡ c → receive E s bs .count ≤ length bs
     go true e = subst (λ (r : Received). r .count ≤ length bs) (sym (ended-receive E s bs e)) (omega arith)
-    go false e = most (counted E s bs e)
+    go false e = most (receive-counts E s bs e)
 
 -- no bytes on a live session: "answers 0 and changes nothing"
 pub no-bytes : (E : Shelf) (s : Session) → Live s → receive E s [] ≡ record { answer = 0; count = 0; session = s }

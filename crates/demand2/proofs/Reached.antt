@@ -22,14 +22,14 @@ use Rattle.mail.specs.Mail.{messageOf}
 use Rattle.session.specs.Choices.{Shelf}
 use Rattle.session.specs.Session.{kindDue, Awaited, awaitsPrompt, awaitsTurn, awaitsAnswer, Phase, aLine, newTurn, awaitsTransfer, leaving, over, Memory, Session, withSid, withAfterCr, Outcome, refuses, goesOn}
 use Rattle.session.specs.Session.{speaking, turnMarks, answerMarks, Stepped, refused, settled, isPlain, keptIn, nextTransfer, step, ended, endedIn, opened}
-use Rattle.session.proofs.Ways.{Passes, toEnd, toTurn, toAnswer, toTransfer, our-turn, our-answer, next-transfer, Judged, isWrong, hearsSid, hearsText, hearsPrompt, hearsProposal, hearsFF, hearsFQ, hearsEnd, hearsFs, At, Way, isRefused, dropsLf, growsLine, ignoresLine, hearsLine, readsOn, readsLast, way}
+use Rattle.session.proofs.Ways.{Passes, toEnd, toTurn, toAnswer, toTransfer, our-turn, our-answer, next-transfer, LineOutcome, isWrong, hearsSid, hearsText, hearsPrompt, hearsProposal, hearsFF, hearsFQ, hearsEnd, hearsFs, RuleDecides, Way, isRefused, dropsLf, growsLine, ignoresLine, hearsLine, readsOn, readsLast, way}
 use Rattle.session.specs.Calls.{Received, receive, give}
 use Rattle.demand2.specs.Room.{room}
 use Rattle.demand2.specs.Refusals.{isDropped, SoFar, Refusal, no2, no9, no11, reasonFor, Exact, Live}
-use Rattle.demand2.specs.Events.{Event, proposed}
+use Rattle.demand2.specs.Events.{Happens, proposed}
 use Rattle.demand2.specs.OurTurn.{OurBlock}
 use Rattle.demand2.specs.Portions.{livesOn}
-use Rattle.demand2.specs.Reached.{owed, sameTransfer, soFarWith, Reached, atOpen, received, given, Sound}
+use Rattle.demand2.specs.Reached.{owedCount, sameTransfer, soFarWith, Reached, atOpen, received, given, Sound}
 use Rattle.demand2.proofs.Room.{room-is}
 use Rattle.demand2.proofs.Refusals.{exact, complete}
 use Rattle.demand2.proofs.OurTurn.{block-exact}
@@ -86,7 +86,7 @@ module _ (E : Shelf) where
       asks js e = let z : i ∷ is ≡ js = cc in subst (Block E m) (f ∙ z) (block-exact (E .table) (m .framed) (m .states) (m .deferred))
   passes-fair m o (toTransfer x p ps) = alive (awaitsTransfer p ps (scanFrom (kindDue m p))) m x refl (λ is e. clash cc) refl
 
-  judged-fair : (a : Awaited) (m : Memory) (ln : Bytes) (o : Outcome) → Judged E m ln a o → Fair E o
+  judged-fair : (a : Awaited) (m : Memory) (ln : Bytes) (o : Outcome) → LineOutcome E m ln a o → Fair E o
   judged-fair a m ln o (isWrong n w) = tt
   judged-fair a m ln o (hearsSid true fs r f) = alive (aLine awaitsPrompt) (withSid fs m) [] refl (λ is e. clash cc) tt
   judged-fair a m ln o (hearsSid false fs r f) = alive (newTurn false) (withSid fs m) [] refl (λ is e. clash cc) tt
@@ -126,12 +126,12 @@ module _ (E : Shelf) where
   to-same n = both (eqb (suc n) (suc n)) (not (eqb (suc n) 0)) (eq-eqb (suc n) (suc n) refl) (ap not (ne-eqb (suc n) 0 (λ e. omega arith)))
 
   -- how many are owed after one is whole
-  speaks-none : (o : Bytes) (ff : Bool) (is : List ℕ) (m : Memory) (s : Session) (c : Bool) → owed (settled s c (speaking E o ff is m) .session .phase) ≡ 0
+  speaks-none : (o : Bytes) (ff : Bool) (is : List ℕ) (m : Memory) (s : Session) (c : Bool) → owedCount (settled s c (speaking E o ff is m) .session .phase) ≡ 0
   speaks-none o true [] m s c = refl
   speaks-none o false [] m s c = refl
   speaks-none o ff (i ∷ is) m s c = refl
 
-  one-less : (ps : List Proposal) (m : Memory) (s : Session) (c : Bool) → owed (settled s c (nextTransfer E ps m) .session .phase) ≡ length ps
+  one-less : (ps : List Proposal) (m : Memory) (s : Session) (c : Bool) → owedCount (settled s c (nextTransfer E ps m) .session .phase) ≡ length ps
   one-less [] m s c = speaks-none [] false (proposed E m) m s c
   one-less (p ∷ ps) m s c = refl
 
@@ -143,22 +143,22 @@ module _ (E : Shelf) where
   module _ (s : Session) (b : ℕ) (q : Bytes) where
     -- the bytes so far after a byte that is not dropped
     abbrev with : Session → Bytes
-    with t = cond (sameTransfer (owed (s .phase)) (owed (t .phase))) (q ++ (b ∷ [])) []
+    with t = cond (sameTransfer (owedCount (s .phase)) (owedCount (t .phase))) (q ++ (b ∷ [])) []
 
-    begins : (t : Session) → sameTransfer (owed (s .phase)) (owed (t .phase)) ≡ false → Sound E t [] → Sound E t (with t)
+    begins : (t : Session) → sameTransfer (owedCount (s .phase)) (owedCount (t .phase)) ≡ false → Sound E t [] → Sound E t (with t)
     begins t e h = subst (λ (c : Bool). Sound E t (cond c (q ++ (b ∷ [])) [])) (sym e) h
 
     refuses-sound : (n : ℕ) → Sound E (refused s n .session) (with (refused s n .session))
-    refuses-sound n = begins (refused s n .session) (to-none (owed (s .phase))) (refused-sound s n)
+    refuses-sound n = begins (refused s n .session) (to-none (owedCount (s .phase))) (refused-sound s n)
 
     -- the byte is not dropped
     heeds : (t : Session) → isDropped s b ≡ false → Sound E t (with t) → Sound E t (soFarWith s q b t)
     heeds t e h = subst (λ (c : Bool). Sound E t (cond c q (with t))) (sym e) h
 
     -- where a line is awaited
-    after-line : (a : Awaited) → At s b (aLine a) → (t : Session) → Sound E t [] → Sound E t (soFarWith s q b t)
+    after-line : (a : Awaited) → RuleDecides s b (aLine a) → (t : Session) → Sound E t [] → Sound E t (soFarWith s q b t)
     after-line a w t h =
-        heeds t (w .kept) (begins t (ap (λ (p : Phase). sameTransfer (owed p) (owed (t .phase))) (w .awaited) ∙ from-none (owed (t .phase))) h)
+        heeds t (w .kept) (begins t (ap (λ (p : Phase). sameTransfer (owedCount p) (owedCount (t .phase))) (w .awaited) ∙ from-none (owedCount (t .phase))) h)
 
     way-sound : Sound E s q → (o : Stepped) → Way E s b o → Sound E (o .session) (soFarWith s q b (o .session))
     way-sound h o (isRefused n k w) = heeds (refused s n .session) k (refuses-sound n)
@@ -166,7 +166,7 @@ module _ (E : Shelf) where
         subst (λ (c : Bool). Sound E (withAfterCr false s) (cond c q (with (withAfterCr false s)))) (sym e)
         (record { soFar = h .soFar; between = h .between; asked = h .asked; parting = h .parting })
     way-sound h o (growsLine a w x y) =
-        let k = subst (Sound E s) (h .between (ap owed (w .awaited))) h in
+        let k = subst (Sound E s) (h .between (ap owedCount (w .awaited))) h in
         after-line a w (o .session) (record { soFar = k .soFar; between = k .between; asked = k .asked; parting = k .parting })
     way-sound h o (ignoresLine a w x y t n) =
         after-line a w (o .session) (record { soFar = tt; between = λ e. refl; asked = λ is e. h .asked is (w .awaited ∙ e); parting = λ e. nothing-left refl })
@@ -175,7 +175,7 @@ module _ (E : Shelf) where
         let f = ap (λ (n : ℕ). scanByte n sc b) (sym (room-is E (s .memory))) ∙ e in
         heeds (o .session) (w .kept)
         (subst (λ (c : Bool). Sound E (o .session) (cond c (q ++ (b ∷ [])) []))
-        (sym (ap (λ (r : Phase). sameTransfer (owed r) (suc (length ps))) (w .awaited) ∙ to-same (length ps)))
+        (sym (ap (λ (r : Phase). sameTransfer (owedCount r) (suc (length ps))) (w .awaited) ∙ to-same (length ps)))
         (record {
           soFar = more-so-far (room E (s .memory .inbox)) (kindDue (s .memory) p) sc on q b (subst (λ (r : Phase). SoFar E r (s .memory) q) (w .awaited) (h .soFar)) f;
           between = λ x. absurd (omega arith);
@@ -187,7 +187,7 @@ module _ (E : Shelf) where
         let t : Session = settled s (isPlain (kindDue (s .memory) p)) (nextTransfer E ps m) .session in
         heeds t (w .kept)
         (begins t
-        (ap (λ (r : Phase). sameTransfer (owed r) (owed (t .phase))) (w .awaited)
+        (ap (λ (r : Phase). sameTransfer (owedCount r) (owedCount (t .phase))) (w .awaited)
         ∙ ap (sameTransfer (suc (length ps))) (one-less ps m s (isPlain (kindDue (s .memory) p))) ∙ to-next (length ps))
         (settled-sound s (isPlain (kindDue (s .memory) p)) (nextTransfer E ps m) (passes-fair m _ (next-transfer E ps m))))
 
@@ -198,7 +198,7 @@ module _ (E : Shelf) where
     ended-sound : ended s ≡ true → Sound E s q → Sound E s (soFarWith s q b s)
     ended-sound l h = subst (Sound E s) (sym (go (isDropped s b))) h
       where
-        none-owed : (p : Phase) → endedIn p (s .out) ≡ true → owed p ≡ 0
+        none-owed : (p : Phase) → endedIn p (s .out) ≡ true → owedCount p ≡ 0
         none-owed (aLine a) e = refl
         none-owed (awaitsTransfer p ps sc) e = absurd (no-both false e refl)
         none-owed leaving e = refl
@@ -254,7 +254,7 @@ module _ (E : Shelf) where
 
   -- EVERY OTHER BYTE there is one of the events
   pub complete-reached : (s : Session) (q : Bytes) → Reached E s q → Live s → (b : ℕ) → receive E s (b ∷ []) .answer ≡ 0
-      → (t : Session) × Event E q s b t × (receive E s (b ∷ []) .session ≡ t)
+      → (t : Session) × Happens E q s b t × (receive E s (b ∷ []) .session ≡ t)
   complete-reached s q r L b e =
       let f = receive-byte E s b L in
       let h = complete E q s b L (reached-sound s q r .soFar) (sym (ap (λ (o : Received). o .answer) f) ∙ e) in

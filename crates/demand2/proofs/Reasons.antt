@@ -15,7 +15,7 @@ use Rattle.session.specs.Session.{kindDue, over, Memory, Session, step, ended, 
 use Rattle.session.specs.Calls.{give}
 use Rattle.demand2.specs.Refusals.{SoFar, Refusal, Situation, Live, Over, closed}
 use Rattle.demand2.specs.Marks.{withSign}
-use Rattle.demand2.specs.Events.{messageFrom, withMessage, endsWithCr, weSpeak, transfersOr, signOnSaid, turnAwaits, turnSaid, proposed, Event, lfGoes, lineGrows, ignored, sidOfCaller, sidOfCalled, textLine, prompt, proposal, ffTurn, fqTurn, blockEnd, fsLineComes, transferGrows, transferWhole}
+use Rattle.demand2.specs.Events.{messageFrom, withMessage, endsWithCr, weSpeak, transfersOr, signOnSaid, turnAwaits, turnSaid, proposed, Happens, lfGoes, lineGrows, ignored, sidOfCaller, sidOfCalled, textLine, prompt, proposal, ffTurn, fqTurn, blockEnd, fsLineComes, transferGrows, transferWhole}
 use Rattle.demand2.specs.Reasons.{givenInto, handedInto, SaysWhy}
 use Rattle.demand2.proofs.Refusals.{exact, complete}
 use Rattle.demand2.proofs.Ended.{over-ended, twelve}
@@ -70,7 +70,7 @@ transfers-hush : (E : Shelf) (afterCr : Bool) (o : Bytes) (ps : List Proposal) (
 transfers-hush E afterCr o [] m = speaks-hush E afterCr false o m
 transfers-hush E afterCr o (p ∷ ps) m = λ e. absurd (no-both false e refl)
 
-event-hush : (E : Shelf) (q : Bytes) (s : Session) (b : ℕ) → Live s → (t : Session) → Event E q s b t → Hush t
+event-hush : (E : Shelf) (q : Bytes) (s : Session) (b : ℕ) → Live s → (t : Session) → Happens E q s b t → Hush t
 event-hush E q s b L t (lfGoes d) = λ e. absurd (no-both (ended s) e L)
 event-hush E q s b L t (lineGrows h a c l) = λ e. absurd (no-both (ended s) e L)
 event-hush E q s b L t (ignored h a c x) = λ e. refl

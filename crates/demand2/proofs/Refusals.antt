@@ -17,15 +17,15 @@ use Rattle.grammar.specs.Errors.{errorText}
 use Rattle.grammar.specs.Transfers.{Parsed, parse}
 use Rattle.grammar.specs.Scan.{Scan, Scanned, goes, got, malformed, wrongSum, noRoom, scan, scanByte, bodyOf, isBodyByte}
 use Rattle.grammar.proofs.Basics.{and2, no-both, and-false}
-use Rattle.grammar.proofs.Rest.{Wrong as Unsummed}
-use Rattle.grammar.proofs.Refusal.{exact as exact-byte, Verdict, exact-8, exact-10, isTen}
+use Rattle.grammar.proofs.Rest.{WrongSum as Unsummed}
+use Rattle.grammar.proofs.Refusal.{exact-verdict as exact-byte, Verdict, exact-8, exact-10, isTen}
 use Rattle.session.specs.Choices.{Shelf}
 use Rattle.session.specs.Session.{kindDue, Awaited, awaitsTurn, Phase, aLine, awaitsTransfer, leaving, over, Session, between, Outcome, turnMarks, answerMarks, Stepped, roomFor, step, ended, endedIn}
-use Rattle.session.proofs.Ways.{Wrong, noSid, noF, noTurnLine, ffAfterFf, ffInBlock, fqFirst, fqInBlock, emptyBlock, emptySummed, tooMany, wrongHex, noAnswer, EndsBlock as Ends, bare as justEnds, summed as endsWith, Judged, isWrong, hearsSid, hearsText, hearsPrompt, hearsProposal, hearsFF, hearsFQ, hearsEnd, hearsFs, At, Why, waits, hasLeft, isOver, tooLong, unread, unsummed, unkept, Way, isRefused, dropsLf, growsLine, ignoresLine, hearsLine, readsOn, readsLast, way}
+use Rattle.session.proofs.Ways.{Wrong, noSid, noF, noTurnLine, ffAfterFf, ffInBlock, fqFirst, fqInBlock, emptyBlock, emptySummed, tooMany, wrongHex, noAnswer, EndsBlock as Ends, bare as justEnds, summed as endsWith, LineOutcome, isWrong, hearsSid, hearsText, hearsPrompt, hearsProposal, hearsFF, hearsFQ, hearsEnd, hearsFs, RuleDecides, Why, waits, hasLeft, isOver, tooLong, unread, unsummed, unkept, Way, isRefused, dropsLf, growsLine, ignoresLine, hearsLine, readsOn, readsLast, way}
 use Rattle.demand2.specs.Limits.{lineLimit, blockLimit}
 use Rattle.demand2.specs.Room.{room}
 use Rattle.demand2.specs.Refusals.{Heeded, awaitsLine, WholeLine, isAllowed, isMiscounted, beginsFs, inTurn, forAnswer, SoFar, TransferByte, Refusal, no2, no3, no4, no5, no6, no7, no8, no9, no10, no11, no13, numberOf, Situation, reasonFor, Exact, Live}
-use Rattle.demand2.specs.Events.{EndsBlock, bare, summed, Event, lfGoes, lineGrows, ignored, sidOfCaller, sidOfCalled, textLine, prompt, proposal, ffTurn, fqTurn, blockEnd, fsLineComes, transferGrows, transferWhole}
+use Rattle.demand2.specs.Events.{EndsBlock, bare, summed, Happens, lfGoes, lineGrows, ignored, sidOfCaller, sidOfCalled, textLine, prompt, proposal, ffTurn, fqTurn, blockEnd, fsLineComes, transferGrows, transferWhole}
 use Rattle.demand2.proofs.Room.{room-is, at-full, within-fits}
 use Rattle.demand2.proofs.Marks.{answer-marks, turn-marks}
 use Rattle.demand2.proofs.Steps.{so-far, scan-more}
@@ -35,7 +35,7 @@ use Rattle.demand2.proofs.Situations.{refuses-with}
 -- ---------------------------------------------------------------- a byte in a live session is an event, or in one of the situations
 
 pub data Found (E : Shelf) (q : Bytes) (s : Session) (b : ℕ) : Type 0 where
-  happened : (t : Session) → Event E q s b t → Found E q s b
+  happened : (t : Session) → Happens E q s b t → Found E q s b
   found : (n : Refusal) → Situation E q s b n → Found E q s b
 
 module _ (E : Shelf) (q : Bytes) (s : Session) (b : ℕ) where
@@ -43,7 +43,7 @@ module _ (E : Shelf) (q : Bytes) (s : Session) (b : ℕ) where
   abbrev pub line : Bytes
   line = trim (s .part)
 
-  pub heeded : {p : Phase} → At s b p → Heeded s b
+  pub heeded : {p : Phase} → RuleDecides s b p → Heeded s b
   heeded w = record { kept = w .kept; silent = w .silent }
 
   module _ (a : Awaited) (e : s .phase ≡ aLine a) (w : WholeLine s b line) where
@@ -100,7 +100,7 @@ module _ (E : Shelf) (q : Bytes) (s : Session) (b : ℕ) where
   end-found raw t (justEnds e) = subst (EndsBlock raw) (sym e) bare
   end-found raw t (endsWith h e f) = subst (EndsBlock raw) (sym e) (summed h (eqb-true _ _ f))
 
-  pub judged-found : (a : Awaited) → s .phase ≡ aLine a → WholeLine s b line → (o : Outcome) → Judged E (s .memory) (s .part) a o → Found E q s b
+  pub judged-found : (a : Awaited) → s .phase ≡ aLine a → WholeLine s b line → (o : Outcome) → LineOutcome E (s .memory) (s .part) a o → Found E q s b
   judged-found a e w o (isWrong n x) = wrong-found a e w n x
   judged-found a e w o (hearsSid true fs r f) = happened _ (sidOfCalled line w e fs r f)
   judged-found a e w o (hearsSid false fs r f) = happened _ (sidOfCaller line w e fs r f)
@@ -115,11 +115,11 @@ module _ (E : Shelf) (q : Bytes) (s : Session) (b : ℕ) where
 
 module _ (E : Shelf) (q : Bytes) (s : Session) (b : ℕ) (L : Live s) (S : SoFar E (s .phase) (s .memory) q) where
   -- an ended session is not live
-  gone : (p : Phase) → endedIn p [] ≡ true → At s b p → ⊥
+  gone : (p : Phase) → endedIn p [] ≡ true → RuleDecides s b p → ⊥
   gone p f w = no-both (ended s) (ap (λ (r : Phase). endedIn r (s .out)) (w .awaited) ∙ ap (endedIn p) (w .silent) ∙ f) L
 
   -- a byte of a transfer, read in the room there is
-  module _ (p : Proposal) (ps : List Proposal) (sc : Scan) (w : At s b (awaitsTransfer p ps sc)) (o : Scanned) (e : scanByte (roomFor E (s .memory)) sc b ≡ o) where
+  module _ (p : Proposal) (ps : List Proposal) (sc : Scan) (w : RuleDecides s b (awaitsTransfer p ps sc)) (o : Scanned) (e : scanByte (roomFor E (s .memory)) sc b ≡ o) where
     within : TransferByte s b p sc
     within = record { heeded = heeded E q s b w; others = ps; awaited = w .awaited }
 
@@ -235,7 +235,7 @@ exact E q s b L S = record { given = given; only = only; none = none₀; else = 
     leaves : (n : Refusal) → Situation E q s b n → step E s b .session ≡ between over false (reasonFor n) (s .memory)
     leaves n h = ap (λ (x : Stepped). x .session) (refuses-with E s b q S n h) ∙ ap (λ (o : Bytes). between over false o (s .memory)) (reason-is n)
 
-    zero-event : (t : Session) → Event E q s b t → step E s b .answer ≡ 0
+    zero-event : (t : Session) → Happens E q s b t → step E s b .answer ≡ 0
     zero-event t h = ap (λ (x : Stepped). x .answer) (happens E q s b S t h)
 
     only : (n : Refusal) → step E s b .answer ≡ numberOf n → Situation E q s b n
@@ -263,9 +263,9 @@ apart E q s b L S n m h k =
 
 -- WHAT A BYTE DOES IS COMPLETE: answered 0, it is one of the events
 pub complete : (E : Shelf) (q : Bytes) (s : Session) (b : ℕ) → Live s → SoFar E (s .phase) (s .memory) q → step E s b .answer ≡ 0
-    → (t : Session) × Event E q s b t × (step E s b .session ≡ t)
+    → (t : Session) × Happens E q s b t × (step E s b .session ≡ t)
 complete E q s b L S e = go (byte-found E q s b L S)
   where
-    go : Found E q s b → (t : Session) × Event E q s b t × (step E s b .session ≡ t)
+    go : Found E q s b → (t : Session) × Happens E q s b t × (step E s b .session ≡ t)
     go (happened t h) = (t, h, ap (λ (x : Stepped). x .session) (happens E q s b S t h))
     go (found n h) = absurd (exact E q s b L S .none e n h)

@@ -11,7 +11,7 @@ use Rattle.grammar.specs.Bytes.{Bytes}
 use Rattle.mail.specs.Mail.{Message}
 use Rattle.session.specs.Choices.{Shelf, bodyBytes}
 use Rattle.session.specs.Session.{Memory, roomFor}
-use Rattle.demand2.specs.Limits.{bodyLimit}
+use Rattle.demand2.specs.Limits.{bodyMax}
 use Rattle.demand2.specs.Room.{keptBytes, Full, longest, storeUsed, Fits, room}
 
 pub kept-is : (inbox : List Message) → bodyBytes inbox ≡ keptBytes inbox
@@ -20,7 +20,7 @@ kept-is (x ∷ xs) = ap (λ (n : ℕ). length (x .body) + n) (kept-is xs)
 
 -- THE SESSION'S ROOM is 01's
 pub room-is : (E : Shelf) (m : Memory) → roomFor E m ≡ room E (m .inbox)
-room-is E m = ap (λ (n : ℕ). min bodyLimit (E .bytes - n)) (kept-is (m .inbox))
+room-is E m = ap (λ (n : ℕ). min bodyMax (E .bytes - n)) (kept-is (m .inbox))
 
 module _ (E : Shelf) (inbox : List Message) (body : Bytes) where
   pub full-at : Full E inbox body → room E inbox ≤ length body
@@ -28,11 +28,11 @@ module _ (E : Shelf) (inbox : List Message) (body : Bytes) where
   full-at (storeUsed h) = omega arith
 
   pub at-full : room E inbox ≤ length body → Full E inbox body
-  at-full h = go (leb bodyLimit (length body)) refl
+  at-full h = go (leb bodyMax (length body)) refl
     where
-      go : (c : Bool) → leb bodyLimit (length body) ≡ c → Full E inbox body
-      go true e = longest (leb-true bodyLimit (length body) e)
-      go false e = storeUsed (omega (arith, leb-false bodyLimit (length body) e))
+      go : (c : Bool) → leb bodyMax (length body) ≡ c → Full E inbox body
+      go true e = longest (leb-true bodyMax (length body) e)
+      go false e = storeUsed (omega (arith, leb-false bodyMax (length body) e))
 
   pub fits-within : Fits E inbox body → length body ≤ room E inbox
   fits-within h = omega (arith, h .short, h .stored)

@@ -14,7 +14,7 @@ use Rattle.grammar.specs.Answers.{fsNumber}
 use Rattle.grammar.specs.Transfers.{parse}
 use Rattle.grammar.specs.Scan.{Scanned, goes, got, malformed, wrongSum, noRoom, scanByte, bodyOf, isBodyByte}
 use Rattle.grammar.proofs.Basics.{both}
-use Rattle.grammar.proofs.Rest.{Wrong}
+use Rattle.grammar.proofs.Rest.{WrongSum}
 use Rattle.grammar.proofs.Refusal.{exact-8, exact-9, exact-10, isTen}
 use Rattle.session.specs.Choices.{Shelf}
 use Rattle.session.specs.Session.{kindDue, awaitsSid, awaitsAnswer, Session, withAfterCr, turnJudged, Stepped, refused, moved, settled, lineMoved, transferMoved, freeStep, step, levelInForce}
@@ -105,7 +105,7 @@ module _ (E : Shelf) (s : Session) (b : ℕ) where
 
     wrong-sum : WrongChecksum q s b → Refuses E s b number.badChecksum
     wrong-sum h =
-        let w : Wrong (parse (kindDue (s .memory) (h .proposal)) (q ++ (b ∷ []))) = subst Wrong (sym (h .whole)) (h .wrong) in
+        let w : WrongSum (parse (kindDue (s .memory) (h .proposal)) (q ++ (b ∷ []))) = subst WrongSum (sym (h .whole)) (h .wrong) in
         let e = exact-9 (room E (s .memory .inbox)) (kindDue (s .memory) (h .proposal)) q (h .reading) (so-far E s b q (h .proposal) (h .reading) (h .within) S) b .1 w in
         transfer-step E s b (h .proposal) (h .reading) (h .within) ∙ ap (transferMoved E (h .proposal) (h .within .others) s) e
 

@@ -16,7 +16,7 @@ use Rattle.grammar.specs.Turns.{Proposal}
 use Rattle.grammar.specs.Transfers.{TransferKind, plainKind, framedKind, Parsed, parse}
 use Rattle.grammar.specs.Scan.{Scan, Scanned, goes, got, malformed, wrongSum, noRoom, scanByte, scanFrom, scanOn}
 use Rattle.grammar.proofs.Basics.{snoc-cons, Lacks, all-lacks}
-use Rattle.grammar.proofs.Rest.{Wrong, Longer, rest-nil}
+use Rattle.grammar.proofs.Rest.{WrongSum, Longer, rest-nil}
 use Rattle.grammar.proofs.Refusal.{Reach, reach-step, from, exact-at, exact-8, Verdict}
 use Rattle.mail.specs.Mail.{messageOf}
 use Rattle.session.specs.Choices.{Shelf}
@@ -32,7 +32,7 @@ use Rattle.demand2.specs.Units.{lineBegun, hasNoCr, LineWhole, transferD
 use Rattle.demand2.proofs.Room.{fits-within}
 use Rattle.demand2.proofs.Steps.{which-line, line-step}
 use Rattle.demand2.proofs.Events.{plain-is, next}
-use Rattle.demand2.proofs.Portions.{live-receive, one, receive-byte, two-portions}
+use Rattle.demand2.proofs.Portions.{live-receive, one-byte-portion, receive-byte, two-portions}
 
 -- ---------------------------------------------------------------- one byte
 
@@ -186,13 +186,13 @@ module _ (E : Shelf) (p : Proposal) (ps : List Proposal) (m : Memory) where
   last h x q sc b e (goes sc′) g k = gone h x (parse (kindDue m p) (q ++ (b ∷ []))) (k .0) e
   last h x q sc b e (got t y) g k =
       let z : right t y ≡ right h x = sym (k .0) ∙ e in
-      one E (reading sc) b
+      one-byte-portion E (reading sc) b
       ∙ ap stoppedAt
       (ap (transferMoved E p ps (reading sc)) g ∙ next E (reading sc) (isPlain (kindDue m p)) ps (keptIn m (messageOf p (record { heading = t; body = y }))))
       ∙ ap (λ (c : Bool). stoppedAt (moved (transfersOr E c [] ps (withMessage m (messageFrom p t y))))) (plain-is (kindDue m p))
       ∙ ap (λ (o : Option Parsed). record { answer = 0; count = 1; session = keptThen (headingIn o) (bodyIn o) }) z
   last h x q sc b e malformed g k = gone h x (parse (kindDue m p) (q ++ (b ∷ []))) (ap (parse (kindDue m p)) (sym (append-nil (q ++ (b ∷ [])))) ∙ k []) e
-  last h x q sc b e wrongSum g k = let z : true ≡ false = subst Wrong e (k .0) in let y : _≡_ {A = ℕ} 0 1 = cc in absurd (omega arith)
+  last h x q sc b e wrongSum g k = let z : true ≡ false = subst WrongSum e (k .0) in let y : _≡_ {A = ℕ} 0 1 = cc in absurd (omega arith)
   last h x q sc b e noRoom g k = gone h x (parse (kindDue m p) (q ++ (b ∷ []))) (k .2) e
 
   -- after q, the bytes u make it whole

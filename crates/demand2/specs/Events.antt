@@ -104,50 +104,50 @@ signOnSaid m = withCr (fixedText ourSid)
 -- ---------------------------------------------------------------- THE EVENTS
 
 -- The byte b comes to the session s, and then the session is the one named; q: the bytes so far of the transfer under way
-pub data Event (E : Shelf) (q : Bytes) (s : Session) (b : ℕ) : Session → Type 0 where
+pub data Happens (E : Shelf) (q : Bytes) (s : Session) (b : ℕ) : Session → Type 0 where
   -- "One LF .. is dropped"
-  lfGoes : isDropped s b ≡ true → Event E q s b (withAfterCr false s)
+  lfGoes : isDropped s b ≡ true → Happens E q s b (withAfterCr false s)
   -- a byte of a line
   lineGrows : Heeded s b → awaitsLine (s .phase) ≡ true → eqb b CR ≡ false → length (s .part) < lineLimit
-      → Event E q s b (withPart (s .part ++ (b ∷ [])) (withAfterCr false s))
+      → Happens E q s b (withPart (s .part ++ (b ∷ [])) (withAfterCr false s))
   -- "A line that begins with `;` is ignored"
   ignored : Heeded s b → awaitsLine (s .phase) ≡ true → b ≡ CR → isComment (trim (s .part)) ≡ true
-      → Event E q s b (between (s .phase) true [] (s .memory))
+      → Happens E q s b (between (s .phase) true [] (s .memory))
   -- the SID: "Called: we .. await the caller's SID, then its first turn."
   sidOfCaller : (line : Bytes) → WholeLine s b line → s .phase ≡ aLine (awaitsSid false) → (fs : List ℕ) → readSid line ≡ some fs → hasFeature letterF fs ≡ true
-      → Event E q s b (between (newTurn false) true [] (metBy fs (s .memory)))
+      → Happens E q s b (between (newTurn false) true [] (metBy fs (s .memory)))
   -- "Caller: we await the SID, skip text lines until the prompt"
   sidOfCalled : (line : Bytes) → WholeLine s b line → s .phase ≡ aLine (awaitsSid true) → (fs : List ℕ) → readSid line ≡ some fs → hasFeature letterF fs ≡ true
-      → Event E q s b (between (aLine awaitsPrompt) true [] (metBy fs (s .memory)))
+      → Happens E q s b (between (aLine awaitsPrompt) true [] (metBy fs (s .memory)))
   textLine : (line : Bytes) → WholeLine s b line → s .phase ≡ aLine awaitsPrompt → isPrompt line ≡ false
-      → Event E q s b (between (aLine awaitsPrompt) true [] (s .memory))
+      → Happens E q s b (between (aLine awaitsPrompt) true [] (s .memory))
   -- "then send SID and first turn"
   prompt : (line : Bytes) → WholeLine s b line → s .phase ≡ aLine awaitsPrompt → isPrompt line ≡ true
-      → Event E q s b (weSpeak E true false (signOnSaid (s .memory)) (s .memory))
+      → Happens E q s b (weSpeak E true false (signOnSaid (s .memory)) (s .memory))
   -- a proposal of the partner's; its line as received, and its CR, are among those that a checksum sums
   proposal : (line : Bytes) (ff : Bool) (ps : List Proposal) {raw : Bytes} → TurnSaid s b ff ps raw line → (p : Proposal)
       → readTurnLine (s .memory .framed) line ≡ proposes p → length ps < blockLimit
-      → Event E q s b (between (aLine (awaitsTurn ff (ps ++ (p ∷ [])) (raw ++ withCr (s .part)))) true [] (s .memory))
+      → Happens E q s b (between (aLine (awaitsTurn ff (ps ++ (p ∷ [])) (raw ++ withCr (s .part)))) true [] (s .memory))
   -- its FF: "State 1 is set at the CR that ends the partner's next whole valid turn.", then our turn
   ffTurn : (line : Bytes) {raw : Bytes} → TurnSaid s b false [] raw line → readTurnLine (s .memory .framed) line ≡ saysFF → (after : Memory) → TurnLeaves (s .memory) after
-      → Event E q s b (weSpeak E true true [] after)
+      → Happens E q s b (weSpeak E true true [] after)
   -- "FQ received ends the session at its CR"
   fqTurn : (line : Bytes) {raw : Bytes} → TurnSaid s b true [] raw line → readTurnLine (s .memory .framed) line ≡ saysFQ
-      → Event E q s b (between over true [] (s .memory))
+      → Happens E q s b (between over true [] (s .memory))
   -- its F>: the same marks, and our FS line waits
   blockEnd : (line : Bytes) (ff : Bool) (p : Proposal) (ps : List Proposal) {raw : Bytes} → TurnSaid s b ff (p ∷ ps) raw line
       → EndsBlock raw (readTurnLine (s .memory .framed) line) → (after : Memory) → TurnLeaves (s .memory) after
-      → Event E q s b
+      → Happens E q s b
       (transfersOr E true (withCr (fsLine (answersTo E (s .memory .inbox) (p ∷ ps)))) (withSign accept (p ∷ ps) (answersTo E (s .memory .inbox) (p ∷ ps))) after)
   -- its FS line: "`-` sets state 2 .. Accepted records are sent in order.", then its turn
   fsLineComes : (line : Bytes) (is : List ℕ) → WholeLine s b line → s .phase ≡ aLine (awaitsAnswer is) → (ss : List Sign) → readFs (levelInForce (s .memory)) (length is) line ≡ some ss
       → (after : Memory) → AnswerLeaves is ss (s .memory) after
-      → Event E q s b (between (newTurn false) true (transfersSaid (E .table) (withSign accept is ss)) after)
+      → Happens E q s b (between (newTurn false) true (transfersSaid (E .table) (withSign accept is ss)) after)
   -- a byte of a transfer
   transferGrows : (p : Proposal) (reading onward : Scan) → (t : TransferByte s b p reading)
       → scan (room E (s .memory .inbox)) (kindDue (s .memory) p) (q ++ (b ∷ [])) ≡ goes onward
-      → Event E q s b (withPhase (awaitsTransfer p (t .others) onward) (withAfterCr false s))
+      → Happens E q s b (withPhase (awaitsTransfer p (t .others) onward) (withAfterCr false s))
   -- its last byte: "A message is kept at its last byte."; an LF after it is dropped if it is plain
   transferWhole : (p : Proposal) (reading : Scan) → (t : TransferByte s b p reading) → (heading body : Bytes)
       → parse (kindDue (s .memory) p) (q ++ (b ∷ [])) ≡ some (record { heading = heading; body = body; right = true }) → Fits E (s .memory .inbox) body
-      → Event E q s b (transfersOr E (endsWithCr (kindDue (s .memory) p)) [] (t .others) (withMessage (s .memory) (messageFrom p heading body)))
+      → Happens E q s b (transfersOr E (endsWithCr (kindDue (s .memory) p)) [] (t .others) (withMessage (s .memory) (messageFrom p heading body)))

@@ -23,8 +23,8 @@ abbrev pub lineLimit : ℕ
 lineLimit = 256
 
 -- "A body has at most 65,535 bytes"
-abbrev pub bodyLimit : ℕ
-bodyLimit = 65535
+abbrev pub bodyMax : ℕ
+bodyMax = 65535
 
 -- "one to five proposals"
 abbrev pub blockLimit : ℕ
@@ -79,7 +79,7 @@ kindDue m p = kindOf (p .form)
 -- The session's model, and the grammar that it reads by, have these numbers.
 pub record LimitsAre : Type 0 where
   pub line : lines.lineLimit ≡ lineLimit
-  pub body : fields.bodyLimit ≡ bodyLimit
+  pub body : fields.bodyMax ≡ bodyMax
   pub block : turns.blockLimit ≡ blockLimit
   pub announced : turns.announcedLimit ≡ announcedLimit
   pub records : mail.recordLimit ≡ recordLimit
@@ -90,5 +90,5 @@ pub record LimitsAre : Type 0 where
   pub notDeferred : phase.notDeferred ≡ notDeferred
   pub wasDeferred : phase.wasDeferred ≡ wasDeferred
   pub b : sid.letterB ≡ letterB
-  pub between : (fs : List ℕ) → sid.levelInForce fs ≡ levelBetween fs
+  pub between : (fs : List ℕ) → sid.levelOfSid fs ≡ levelBetween fs
   pub level : (m : Memory) → model.levelInForce m ≡ levelInForce m

@@ -15,7 +15,7 @@ use Rattle.session.specs.Calls.{receive, give}
 use Rattle.demand2.specs.Limits.{blockLimit, levelInForce}
 use Rattle.demand2.specs.Refusals.{awaitsLine, WholeLine, Refusal, Situation, Exact, Over, Live, LiveExact, Exact12}
 use Rattle.demand2.specs.Marks.{AnswerLeaves, TurnLeaves}
-use Rattle.demand2.specs.Events.{Event, proposed}
+use Rattle.demand2.specs.Events.{Happens, proposed}
 use Rattle.demand2.specs.OurTurn.{OurBlock, TurnExact}
 use Rattle.demand2.specs.OurAnswers.{AnswersExact}
 use Rattle.demand2.specs.Portions.{ByteReceived, andThen, Counted, GivenTogether, GivenOut}
@@ -26,8 +26,8 @@ use Rattle.demand2.specs.ReadBack.{AnswerReadsBack}
 
 -- What a byte does that is not refused: each of the events leaves the session that it names, and there is no other.
 pub record EventExact (E : Shelf) (q : Bytes) (s : Session) (b : ℕ) : Type 0 where
-  pub given : (t : Session) → Event E q s b t → step E s b ≡ moved t
-  pub only : step E s b .answer ≡ 0 → (t : Session) × Event E q s b t × (step E s b .session ≡ t)
+  pub given : (t : Session) → Happens E q s b t → step E s b ≡ moved t
+  pub only : step E s b .answer ≡ 0 → (t : Session) × Happens E q s b t × (step E s b .session ≡ t)
 
 -- E: what the session was opened with; q: the bytes so far of the transfer under way; s: the session just before the byte
 pub record NextByte (E : Shelf) (q : Bytes) (s : Session) : Type 0 where

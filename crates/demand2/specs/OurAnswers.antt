@@ -9,7 +9,7 @@ use Rattle.grammar.specs.Turns.{Proposal}
 use Rattle.grammar.specs.Answers.{Sign, accept, decline, defer}
 use Rattle.mail.specs.Mail.{Record, Message}
 use Rattle.session.specs.Choices.{Shelf, answersTo}
-use Rattle.demand2.specs.Limits.{bodyLimit}
+use Rattle.demand2.specs.Limits.{bodyMax}
 use Rattle.demand2.specs.Room.{keptBytes}
 use Rattle.demand2.specs.Marks.{withSign}
 
@@ -20,9 +20,9 @@ pub record Among (b : Bytes) (bids : List Bytes) : Type 0 where
   pub same : OneBid (getD bids at []) b
 
 -- The announced sizes of these proposals, together.
-abbrev pub sizesOf : List Proposal → ℕ
-sizesOf [] = 0
-sizesOf (p ∷ ps) = p .size + sizesOf ps
+abbrev pub announcedSizes : List Proposal → ℕ
+announcedSizes [] = 0
+announcedSizes (p ∷ ps) = p .size + announcedSizes ps
 
 -- "`-` if the BID is in the table, the known list, the inbox, or accepted earlier in this block"; earlier: the proposals so accepted
 pub data HaveBid (E : Shelf) (inbox : List Message) (earlier : List Proposal) (b : Bytes) : Type 0 where
@@ -33,8 +33,8 @@ pub data HaveBid (E : Shelf) (inbox : List Message) (earlier : List Proposal) (b
 
 -- "else `=` if the size is over 65,535, or over the free store less the sizes accepted in this block, or no inbox place is free for it"
 pub data NoRoomFor (E : Shelf) (inbox : List Message) (earlier : List Proposal) (size : ℕ) : Type 0 where
-  tooLong : bodyLimit < size → NoRoomFor E inbox earlier size
-  noStore : E .bytes - keptBytes inbox - sizesOf earlier < size → NoRoomFor E inbox earlier size
+  tooLong : bodyMax < size → NoRoomFor E inbox earlier size
+  noStore : E .bytes - keptBytes inbox - announcedSizes earlier < size → NoRoomFor E inbox earlier size
   noPlace : E .places ≤ length inbox + length earlier → NoRoomFor E inbox earlier size
 
 -- "else `+`"

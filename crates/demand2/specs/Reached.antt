@@ -17,11 +17,11 @@ use Rattle.demand2.specs.Marks.{isIn, withSign, AnswerLeaves}
 use Rattle.demand2.specs.OurTurn.{OurBlock}
 
 -- How many transfers are owed to us, the one under way with them.
-abbrev pub owed : Phase → ℕ
-owed (aLine a) = 0
-owed (awaitsTransfer p ps sc) = suc (length ps)
-owed leaving = 0
-owed over = 0
+abbrev pub owedCount : Phase → ℕ
+owedCount (aLine a) = 0
+owedCount (awaitsTransfer p ps sc) = suc (length ps)
+owedCount leaving = 0
+owedCount over = 0
 
 -- One is under way before and after a byte, and it is the same: as many are owed.
 abbrev pub sameTransfer : ℕ → ℕ → Bool
@@ -30,7 +30,7 @@ sameTransfer before after = eqb before after && not (eqb after 0)
 -- The bytes so far after the byte b; q: those before it; s and t: the session before and after it. An LF that is dropped is none of them ("an LF that
 -- Lines drops is neither"); each other byte is one more, unless none is under way now or the next one begins.
 abbrev pub soFarWith : Session → Bytes → ℕ → Session → Bytes
-soFarWith s q b t = cond (isDropped s b) q (cond (sameTransfer (owed (s .phase)) (owed (t .phase))) (q ++ (b ∷ [])) [])
+soFarWith s q b t = cond (isDropped s b) q (cond (sameTransfer (owedCount (s .phase)) (owedCount (t .phase))) (q ++ (b ∷ [])) [])
 
 -- After an open in a role (true: caller) that found these states, any receives and gives. A portion is its bytes one by one (`reached-portion`).
 pub data Reached (E : Shelf) : Session → Bytes → Type 0 where
@@ -42,7 +42,7 @@ pub data Reached (E : Shelf) : Session → Bytes → Type 0 where
 pub record Sound (E : Shelf) (s : Session) (q : Bytes) : Type 0 where
   -- the reading of the transfer under way has come from these bytes, and where none is under way there are none
   pub soFar : SoFar E (s .phase) (s .memory) q
-  pub between : owed (s .phase) ≡ 0 → q ≡ []
+  pub between : owedCount (s .phase) ≡ 0 → q ≡ []
   -- the records whose FS line is awaited are those of our block: places of the table in order, each waiting and not deferred
   pub asked : (is : List ℕ) → s .phase ≡ aLine (awaitsAnswer is) → OurBlock (E .table) (s .memory .framed) (s .memory .states) (s .memory .deferred) is
   -- after the end nothing is ever given but the rest of the one line that says why (02, Q-1)

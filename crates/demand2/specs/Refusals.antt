@@ -19,7 +19,7 @@ use lib.ListN.{length}
 use Rattle.grammar.specs.Bytes.{Bytes, byteValues, CR, LF, null, isSome}
 use Rattle.grammar.specs.Ascii.{text}
 use Rattle.grammar.specs.Refusals as number
-use Rattle.grammar.specs.Fields.{after}
+use Rattle.grammar.specs.Fields.{afterCapitals}
 use Rattle.grammar.specs.Lines.{trim, isComment}
 use Rattle.grammar.specs.Sid.{readSid, hasFeature}
 use Rattle.grammar.specs.Turns.{Proposal, TurnLine, saysFF, saysFQ, endsBlock, notAllowed, proposes, endsSummed, readTurnLine}
@@ -119,7 +119,7 @@ pub record NoAnswer (s : Session) (b : ℕ) (line : Bytes) : Type 0 where
 
 -- "Where FS is awaited, a wrong line that begins with FS gets 7 and any other 5"
 abbrev pub beginsFs : Bytes → Bool
-beginsFs line = isSome (after (text "FS") line)
+beginsFs line = isSome (afterCapitals (text "FS") line)
 
 -- 5: "a turn line that isn't allowed here"
 pub data LineNotAllowed (s : Session) (b : ℕ) : Type 0 where

@@ -15,7 +15,7 @@ use Rattle.grammar.proofs.Signs.{fs-only}
 use Rattle.mail.specs.Mail.{recordLimit, accepted, messageOf}
 use Rattle.session.specs.Choices.{Shelf}
 use Rattle.session.specs.Session.{kindDue, Awaited, awaitsSid, awaitsPrompt, awaitsTurn, awaitsAnswer, Phase, aLine, newTurn, awaitsTransfer, leaving, over, Memory, Session, withSid, Outcome, refuses, goesOn, turnMarks, answerMarks, afterSid, Stepped, settled, keptIn, nextTransfer, isPlain, step, opened, levelInForce}
-use Rattle.session.proofs.Ways.{Passes, toEnd, toTurn, toAnswer, toTransfer, our-turn, our-answer, next-transfer, Wrong, noSid, noF, noTurnLine, ffAfterFf, ffInBlock, fqFirst, fqInBlock, emptyBlock, emptySummed, tooMany, wrongHex, noAnswer, Judged, isWrong, hearsSid, hearsText, hearsPrompt, hearsProposal, hearsFF, hearsFQ, hearsEnd, hearsFs, why-number, Way, isRefused, dropsLf, growsLine, ignoresLine, hearsLine, readsOn, readsLast, way}
+use Rattle.session.proofs.Ways.{Passes, toEnd, toTurn, toAnswer, toTransfer, our-turn, our-answer, next-transfer, Wrong, noSid, noF, noTurnLine, ffAfterFf, ffInBlock, fqFirst, fqInBlock, emptyBlock, emptySummed, tooMany, wrongHex, noAnswer, LineOutcome, isWrong, hearsSid, hearsText, hearsPrompt, hearsProposal, hearsFF, hearsFQ, hearsEnd, hearsFs, why-number, Way, isRefused, dropsLf, growsLine, ignoresLine, hearsLine, readsOn, readsLast, way}
 use Rattle.session.specs.Calls.{give}
 use Rattle.log.specs.Log.{dueOn, owes, unsent}
 use Rattle.demand3.specs.Tally.{isRefusal}
@@ -176,7 +176,7 @@ module _ (E : Shelf) where
       let x = ap length e in
       record { sum = omega arith; places = B .places; held = h }
 
-  line-balances : (m : Memory) (ln : Bytes) (a : Awaited) (o : Outcome) → Balanced E (aLine a) m → Judged E m ln a o → BalancedAfter o
+  line-balances : (m : Memory) (ln : Bytes) (a : Awaited) (o : Outcome) → Balanced E (aLine a) m → LineOutcome E m ln a o → BalancedAfter o
   unfolding BalancedAfter
   line-balances m ln a o B (isWrong n w) = wrong-number m ln a n w
   line-balances m ln a o B (hearsSid c fs r f) = go c (B .held)

@@ -41,14 +41,14 @@ proposable-at (r ∷ T) zero h k = (and2 (proposable (proposalOf r)) (allProposa
 proposable-at (r ∷ T) (suc j) h k = proposable-at T j ((and2 (proposable (proposalOf r)) (allProposable T) h) .1) (le-of-suc-le-suc k)
 
 -- the proposals of the records at these places
-abbrev pub proposalsAt : List Record → List ℕ → List Proposal
-proposalsAt T is = map (λ (k : ℕ). proposalOf (recordAt T k)) is
+abbrev pub proposalsFor : List Record → List ℕ → List Proposal
+proposalsFor T is = map (λ (k : ℕ). proposalOf (recordAt T k)) is
 
-own : (md : Bool) (T : List Record) → distinctBids T ≡ true → (is : List ℕ) → Places md T is → placesOf T (proposalsAt T is) ≡ some is
+own : (md : Bool) (T : List Record) → distinctBids T ≡ true → (is : List ℕ) → Places md T is → placesOf T (proposalsFor T is) ≡ some is
 own md T g [] h = refl
 own md T g (i ∷ is) h = rw (place-at T i g (h .0)) (rw (lt-ltb i (length T) (h .0)) (rw (own md T g is (h .2))))
 
-fit : (md : Bool) (T : List Record) → allProposable T ≡ true → (is : List ℕ) → Places md T is → AllFit md (proposalsAt T is)
+fit : (md : Bool) (T : List Record) → allProposable T ≡ true → (is : List ℕ) → Places md T is → AllFit md (proposalsFor T is)
 fit md T g [] h = tt
 fit md T g (i ∷ is) h = ((proposable-at T i g (h .0), h .1), fit md T g is (h .2))
 
@@ -57,13 +57,13 @@ fit md T g (i ∷ is) h = ((proposable-at T i g (h .0), h .1), fit md T g is (h 
 abbrev pub ourChoice : Shelf → Memory → List ℕ
 ourChoice E m = chosen (E .table) (m .framed) (m .states) (m .deferred)
 
-pub record Sound (E : Shelf) : Type 0 where
+pub record SoundChoice (E : Shelf) : Type 0 where
   pub few : (m : Memory) → length (ourChoice E m) ≤ blockLimit
-  pub own : (m : Memory) → placesOf (E .table) (proposalsAt (E .table) (ourChoice E m)) ≡ some (ourChoice E m)
-  pub fit : (m : Memory) → AllFit (m .framed) (proposalsAt (E .table) (ourChoice E m))
+  pub own : (m : Memory) → placesOf (E .table) (proposalsFor (E .table) (ourChoice E m)) ≡ some (ourChoice E m)
+  pub fit : (m : Memory) → AllFit (m .framed) (proposalsFor (E .table) (ourChoice E m))
   pub full : (inbox : List Message) (ps : List Proposal) → length (answersTo E inbox ps) ≡ length ps
 
-pub sound : (E : Shelf) → GoodTable (E .table) → Sound E
+pub sound : (E : Shelf) → GoodTable (E .table) → SoundChoice E
 sound E g =
     record {
       few = λ m. Rattle.session.proofs.Choices.few (E .table) (m .framed) (m .states) (m .deferred);

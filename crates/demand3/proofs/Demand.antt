@@ -18,13 +18,13 @@ use Rattle.log.specs.Fed.{Fed, fedByte, fedAll}
 use Rattle.log.proofs.Spoken.{spoken-nil, greeting-spoken}
 use Rattle.log.proofs.Units.{fedOpened, fed-append, logs-agree}
 use Rattle.demand3.specs.Demand.{Call, receiving, giving, refusedCall, run, GoodTable, Demand3}
-use Rattle.demand3.proofs.Choice.{Sound, sound}
-use Rattle.demand3.proofs.Inv.{Live, Inv, live, bookOf, no-line, give-inv, inv-book}
+use Rattle.demand3.proofs.Choice.{SoundChoice, sound}
+use Rattle.demand3.proofs.Inv.{LogInStep, Inv, live, bookOf, no-line-yet, give-inv, inv-book}
 use Rattle.demand3.proofs.Step.{step-inv}
 
 -- ---------------------------------------------------------------- receive
 
-module _ (E : Shelf) (S : Sound E) where
+module _ (E : Shelf) (S : SoundChoice E) where
   -- the log fed with the bytes that a receive counts
   AfterReceive : Fed → Bytes → Received → Type 0
   AfterReceive f bs r = Inv E (r .session) (fedAll (E .table) f (map took (take (r .count) bs)))
@@ -67,9 +67,9 @@ module _ (E : Shelf) (S : Sound E) where
       (run-inv cs (give s room) _ (give-inv E s f room h))
   run-inv (refusedCall ∷ cs) s f h = run-inv cs s f h
 
-pub open-live : (E : Shelf) (caller : Bool) (states : List ℕ) → Live E (opened caller states) (fedOpened caller states)
-open-live E true states = record { unit = []; course = spoken-nil (E .table) _ _; book = refl; afterCr = refl; pending = (no-line, tt) }
-open-live E false states = record { unit = []; course = greeting-spoken (E .table) _ noAccount; book = refl; afterCr = refl; pending = (no-line, tt) }
+pub open-live : (E : Shelf) (caller : Bool) (states : List ℕ) → LogInStep E (opened caller states) (fedOpened caller states)
+open-live E true states = record { unit = []; course = spoken-nil (E .table) _ _; book = refl; afterCr = refl; pending = (no-line-yet, tt) }
+open-live E false states = record { unit = []; course = greeting-spoken (E .table) _ noAccount; book = refl; afterCr = refl; pending = (no-line-yet, tt) }
 
 pub open-inv : (E : Shelf) (caller : Bool) (states : List ℕ) → Inv E (opened caller states) (fedOpened caller states)
 open-inv E caller states = live (open-live E caller states)

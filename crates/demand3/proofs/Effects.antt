@@ -12,7 +12,7 @@ use Rattle.grammar.specs.Transfers.{Content}
 use Rattle.phase.specs.Phase.{stateForwarded, stateDeclined}
 use Rattle.mail.specs.Mail.{accepted, marked, declined, messageOf}
 use Rattle.mail.specs.Tally.{declinedOnes, deferredOnes}
-use Rattle.log.specs.Effects.{oneOf, madeFrom, forwardedSent, isMinus, isEquals, given, acceptedBy, declinedBy, keptAs}
+use Rattle.log.specs.Effects.{oneOf, madeFrom, forwardedSent, isMinus, isEquals, givenSign, acceptedBy, declinedBy, keptAs}
 
 -- ---------------------------------------------------------------- states
 
@@ -49,7 +49,7 @@ declined-alike [] [] st = sym (made-none 0 stateDeclined st)
 declined-alike [] (s ∷ ss) st = sym (made-none 0 stateDeclined st)
 declined-alike (i ∷ is) [] st = sym (made-none 0 stateDeclined st)
 declined-alike (i ∷ is) (accept ∷ ss) st = declined-alike is ss st
-declined-alike (i ∷ is) (decline ∷ ss) st = declined-alike is ss (set st i stateDeclined) ∙ made-set 0 stateDeclined i i (given isMinus ss is) st (omega arith)
+declined-alike (i ∷ is) (decline ∷ ss) st = declined-alike is ss (set st i stateDeclined) ∙ made-set 0 stateDeclined i i (givenSign isMinus ss is) st (omega arith)
 declined-alike (i ∷ is) (defer ∷ ss) st = declined-alike is ss st
 
 -- ---------------------------------------------------------------- proposals and messages
@@ -63,14 +63,14 @@ accepted-alike (decline ∷ ss) (x ∷ xs) = accepted-alike ss xs
 accepted-alike (defer ∷ ss) (x ∷ xs) = accepted-alike ss xs
 
 -- those that count as declined and as deferred (02, Q-3)
-pub declined-ones-alike : {A : Type 0} (ss : List Sign) (xs : List A) → declinedOnes ss xs ≡ given isMinus ss xs
+pub declined-ones-alike : {A : Type 0} (ss : List Sign) (xs : List A) → declinedOnes ss xs ≡ givenSign isMinus ss xs
 declined-ones-alike [] xs = refl
 declined-ones-alike (s ∷ ss) [] = refl
 declined-ones-alike (accept ∷ ss) (x ∷ xs) = declined-ones-alike ss xs
 declined-ones-alike {A} (decline ∷ ss) (x ∷ xs) = ap (λ (l : List A). x ∷ l) (declined-ones-alike ss xs)
 declined-ones-alike (defer ∷ ss) (x ∷ xs) = declined-ones-alike ss xs
 
-pub deferred-ones-alike : {A : Type 0} (ss : List Sign) (xs : List A) → deferredOnes ss xs ≡ given isEquals ss xs
+pub deferred-ones-alike : {A : Type 0} (ss : List Sign) (xs : List A) → deferredOnes ss xs ≡ givenSign isEquals ss xs
 deferred-ones-alike [] xs = refl
 deferred-ones-alike (s ∷ ss) [] = refl
 deferred-ones-alike (accept ∷ ss) (x ∷ xs) = deferred-ones-alike ss xs

@@ -24,14 +24,14 @@ use Rattle.log.proofs.Spoken.{spoken, spoken-append, spoken-none, gave-spoken}
 use Rattle.demand3.specs.Tally.{isRefusal}
 
 -- the line that is awaited, for the log
-abbrev pub lineOf : Awaited → Theirs
-lineOf (awaitsSid c) = theirSid c
-lineOf awaitsPrompt = theirText
-lineOf (awaitsTurn ff ps raw) = theirTurn ff (map proposes ps) raw
-lineOf (awaitsAnswer is) = theirAnswer is
+abbrev pub awaitedLineOf : Awaited → Theirs
+awaitedLineOf (awaitsSid c) = theirSid c
+awaitedLineOf awaitsPrompt = theirText
+awaitedLineOf (awaitsTurn ff ps raw) = theirTurn ff (map proposes ps) raw
+awaitedLineOf (awaitsAnswer is) = theirAnswer is
 
 abbrev pub nextOf : Phase → Next
-nextOf (aLine a) = theySay (lineOf a)
+nextOf (aLine a) = theySay (awaitedLineOf a)
 nextOf (awaitsTransfer p ps sc) = theirTransfer p ps
 nextOf leaving = Next.over
 nextOf Phase.over = Next.over
@@ -53,11 +53,11 @@ abbrev pub bookOf : Memory → Book
 bookOf m = record { framed = m .framed; level = m .terms .level; states = m .states; kept = m .inbox }
 
 -- the session holds the line so far
-abbrev pub Line : Bytes → Bytes → Type 0
-Line part u = (u ≡ part) × (length part ≤ lineLimit)
+abbrev pub LineSoFar : Bytes → Bytes → Type 0
+LineSoFar part u = (u ≡ part) × (length part ≤ lineLimit)
 
-pub no-line : Line [] []
-no-line = (refl, omega arith)
+pub no-line-yet : LineSoFar [] []
+no-line-yet = (refl, omega arith)
 
 -- the proposals so far
 abbrev pub Few : Awaited → Type 0
@@ -68,12 +68,12 @@ Few (awaitsAnswer is) = Unit {0}
 
 -- what the session holds of the partner's unit so far, u
 abbrev pub Pending : Shelf → Memory → Phase → Bytes → Bytes → Type 0
-Pending E m (aLine a) part u = Line part u × Few a
+Pending E m (aLine a) part u = LineSoFar part u × Few a
 Pending E m (awaitsTransfer p ps sc) part u = Reach (roomFor E m) (kindDue m p) (goes sc) u
 Pending E m leaving part u = Unit {0}
 Pending E m Phase.over part u = Unit {0}
 
-pub record Live (E : Shelf) (s : Session) (f : Fed) : Type 0 where
+pub record LogInStep (E : Shelf) (s : Session) (f : Fed) : Type 0 where
   pub unit : Bytes
   pub course : spoken (E .table) (f .log .book) (some (f .log .course, f .raw)) (s .out) ≡ some (courseOf (s .phase) (s .memory), unit)
   pub book : f .log .book ≡ bookOf (s .memory)
@@ -86,12 +86,12 @@ pub record Gone (s : Session) (f : Fed) : Type 0 where
   pub book : f .log .book ≡ bookOf (s .memory)
 
 pub data Inv (E : Shelf) (s : Session) (f : Fed) : Type 0 where
-  live : Live E s f → Inv E s f
+  live : LogInStep E s f → Inv E s f
   gone : Gone s f → Inv E s f
 
 -- what a byte leaves: the session goes on, or the byte was refused
 pub data After (E : Shelf) (o : Stepped) (f : Fed) : Type 0 where
-  went : o .answer ≡ 0 → Live E (o .session) f → After E o f
+  went : o .answer ≡ 0 → LogInStep E (o .session) f → After E o f
   halted : isRefusal (o .answer) ≡ true → Gone (o .session) f → After E o f
 
 pub after-inv : {E : Shelf} {o : Stepped} {f : Fed} → After E o f → Inv E (o .session) f
@@ -104,7 +104,7 @@ inv-book (gone h) = h .book
 
 -- ---------------------------------------------------------------- give
 
-pub give-live : (E : Shelf) (s : Session) (f : Fed) (room : ℕ) → Live E s f → Live E (give s room) (fedAll (E .table) f (map gave (handedOut s room)))
+pub give-live : (E : Shelf) (s : Session) (f : Fed) (room : ℕ) → LogInStep E s f → LogInStep E (give s room) (fedAll (E .table) f (map gave (handedOut s room)))
 unfolding give
 give-live E s f room h = go (spoken T b (some (f .log .course, f .raw)) (take room (s .out))) refl split
   where
@@ -121,7 +121,7 @@ give-live E s f room h = go (spoken T b (some (f .log .course, f .raw)) (take ro
 
     go : (o : Option (Course × Bytes)) → spoken T b (some (f .log .course, f .raw)) (take room (s .out)) ≡ o
         → spoken T b o (drop room (s .out)) ≡ some (courseOf (s .phase) (s .memory), h .unit)
-        → Live E (give s room) (fedAll T f (map gave (take room (s .out))))
+        → LogInStep E (give s room) (fedAll T f (map gave (take room (s .out))))
     go none e k = absurd (let z = sym (spoken-none T b (drop room (s .out))) ∙ k in let y : _≡_ {A = ℕ} 0 1 = cc in omega arith)
     go (some p) e k =
         rw (gave-spoken T (take room (s .out)) f p e)

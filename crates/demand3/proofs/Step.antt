@@ -29,12 +29,12 @@ use Rattle.log.specs.Log
 use Rattle.log.specs.Fed.{Fed, unitByte, outOfOrder, fedByte}
 use Rattle.log.proofs.Levels.{level-alike}
 use Rattle.log.proofs.Said.{said-after}
-use Rattle.log.proofs.Spoken.{spoken, spoken-nil, spoken-append, spoken-alone, spoken-ours, withSpoken, at, after as afterLine, AllFit, map-snoc, ff-spoken, fq-spoken, sid-spoken, turn-spoken, fs-spoken, transfers-spoken}
+use Rattle.log.proofs.Spoken.{spoken, spoken-nil, spoken-append, spoken-alone, spoken-ours, withSpoken, standsAt, standsAfter as afterLine, AllFit, map-snoc, ff-spoken, fq-spoken, sid-spoken, turn-spoken, fs-spoken, transfers-spoken}
 use Rattle.log.specs.Effects.{forwardedSent, Account, withForwarded}
 use Rattle.demand3.specs.Tally.{isRefusal}
 use Rattle.demand3.proofs.Effects.{marked-alike, declined-alike, accepted-alike, declined-ones-alike, deferred-ones-alike, message-alike}
-use Rattle.demand3.proofs.Choice.{Sound, ourChoice, proposalsAt}
-use Rattle.demand3.proofs.Inv.{lineOf, Few, nextOf, accountOf, courseOf, bookOf, no-line, Pending, Live, Inv, live, gone, After, went, halted, after-inv}
+use Rattle.demand3.proofs.Choice.{SoundChoice, ourChoice, proposalsFor}
+use Rattle.demand3.proofs.Inv.{awaitedLineOf, Few, nextOf, accountOf, courseOf, bookOf, no-line-yet, Pending, LogInStep, Inv, live, gone, After, went, halted, after-inv}
 
 -- a refusal with the number n that leaves the log's book; the log awaits no byte of ours
 refusal : (E : Shelf) (s : Session) (n : ℕ) (f : Fed) → isRefusal n ≡ true → isOurs (f .log .course .next) ≡ false → f .log .book ≡ bookOf (s .memory)
@@ -52,33 +52,33 @@ says : (E : Shelf) (s : Session) (a : Bool) (p : Phase) (m : Memory) (o : Bytes)
     → spoken (E .table) (bookOf m) (some (c, [])) o ≡ some (courseOf p m, []) → Pending E m p [] [] → After E (settled s a (goesOn p m o)) (after a m c)
 says E s a p m o c e h = went refl (record { unit = []; course = e; book = refl; afterCr = refl; pending = h })
 
-our-turn : (E : Shelf) → Sound E → (o : Bytes) (ff : Bool) (m : Memory) (s : Session) (a : Bool) (c : Course)
-    → spoken (E .table) (bookOf m) (some (c, [])) o ≡ at (ourNewTurn ff) (accountOf m) → After E (settled s a (speakNow E o ff m)) (after a m c)
+our-turn : (E : Shelf) → SoundChoice E → (o : Bytes) (ff : Bool) (m : Memory) (s : Session) (a : Bool) (c : Course)
+    → spoken (E .table) (bookOf m) (some (c, [])) o ≡ standsAt (ourNewTurn ff) (accountOf m) → After E (settled s a (speakNow E o ff m)) (after a m c)
 our-turn E S o ff m s a c e = go ff (ourChoice E m) (S .few m) (S .own m) (S .fit m) e
   where
     T : List Record
     T = E .table
 
     -- o, then x
-    then : (n : Next) (x : Bytes) (q : Course × Bytes) → spoken T (bookOf m) (some (c, [])) o ≡ at n (accountOf m)
-        → spoken T (bookOf m) (at n (accountOf m)) x ≡ some q → spoken T (bookOf m) (some (c, [])) (o ++ x) ≡ some q
+    then : (n : Next) (x : Bytes) (q : Course × Bytes) → spoken T (bookOf m) (some (c, [])) o ≡ standsAt n (accountOf m)
+        → spoken T (bookOf m) (standsAt n (accountOf m)) x ≡ some q → spoken T (bookOf m) (some (c, [])) (o ++ x) ≡ some q
     then n x q e k = spoken-append T (bookOf m) (some (c, [])) o x ∙ ap (λ (y : Option (Course × Bytes)). spoken T (bookOf m) y x) e ∙ k
 
-    go : (ff : Bool) (is : List ℕ) → length is ≤ blockLimit → placesOf T (proposalsAt T is) ≡ some is → AllFit (m .framed) (proposalsAt T is)
-        → spoken T (bookOf m) (some (c, [])) o ≡ at (ourNewTurn ff) (accountOf m) → After E (settled s a (speaking E o ff is m)) (after a m c)
+    go : (ff : Bool) (is : List ℕ) → length is ≤ blockLimit → placesOf T (proposalsFor T is) ≡ some is → AllFit (m .framed) (proposalsFor T is)
+        → spoken T (bookOf m) (some (c, [])) o ≡ standsAt (ourNewTurn ff) (accountOf m) → After E (settled s a (speaking E o ff is m)) (after a m c)
     go true [] few own fit e =
         says E s a leaving m _ c (then (ourNewTurn true) (withCr (fixedText ourFQ)) (courseOf leaving m, []) e (fq-spoken T (bookOf m) (accountOf m))) tt
     go false [] few own fit e =
         says E s a (newTurn true) m _ c
-        (then (ourNewTurn false) (withCr (fixedText ourFF)) (courseOf (newTurn true) m, []) e (ff-spoken T (bookOf m) (accountOf m))) (no-line, omega arith)
+        (then (ourNewTurn false) (withCr (fixedText ourFF)) (courseOf (newTurn true) m, []) e (ff-spoken T (bookOf m) (accountOf m))) (no-line-yet, omega arith)
     go ff (i ∷ is) few own fit e =
         says E s a (aLine (awaitsAnswer (i ∷ is))) (proposing (i ∷ is) m) _ c
-        (then (ourNewTurn ff) (turnText (proposalsAt T (i ∷ is))) (courseOf (aLine (awaitsAnswer (i ∷ is))) (proposing (i ∷ is) m), []) e
-        (turn-spoken T (bookOf m) ff _ (proposalsAt T is) (accountOf m) fit (rw (length-map is) few)
+        (then (ourNewTurn ff) (turnText (proposalsFor T (i ∷ is))) (courseOf (aLine (awaitsAnswer (i ∷ is))) (proposing (i ∷ is) m), []) e
+        (turn-spoken T (bookOf m) ff _ (proposalsFor T is) (accountOf m) fit (rw (length-map is) few)
         ∙ ap (λ (js : Option (List ℕ)). afterLine (ourProposed js) (accountOf m)) own))
-        (no-line, tt)
+        (no-line-yet, tt)
 
-answer : (E : Shelf) → Sound E → (ps : List Proposal) (m : Memory) (s : Session) → 1 ≤ length ps → length ps ≤ blockLimit
+answer : (E : Shelf) → SoundChoice E → (ps : List Proposal) (m : Memory) (s : Session) → 1 ≤ length ps → length ps ≤ blockLimit
     → After E (settled s true (answered E ps m)) (after true m (courseWith (weSay (ourAnswer ps)) (accountOf m)))
 answer E S ps m s k l = go (accepted ss ps) (rw (accepted-alike ss ps) (fs-spoken (E .table) (bookOf m) ps ss (accountOf m) (S .full (m .inbox) ps) k l))
   where
@@ -88,7 +88,7 @@ answer E S ps m s k l = go (accepted ss ps) (rw (accepted-alike ss ps) (fs-spoke
     c : Course
     c = courseWith (weSay (ourAnswer ps)) (accountOf m)
 
-    go : (qs : List Proposal) → spoken (E .table) (bookOf m) (some (c, [])) (withCr (fsLine ss)) ≡ at (theirsOwed qs) (accountOf m)
+    go : (qs : List Proposal) → spoken (E .table) (bookOf m) (some (c, [])) (withCr (fsLine ss)) ≡ standsAt (theirsOwed qs) (accountOf m)
         → After E (settled s true (answering E ss qs m)) (after true m c)
     go [] e = our-turn E S (withCr (fsLine ss)) false m s true c e
     go (q ∷ qs) e = says E s true (awaitsTransfer q qs (scanFrom (kindDue m q))) m (withCr (fsLine ss)) c e (from (roomFor E m) (kindDue m q))
@@ -97,7 +97,7 @@ answer E S ps m s k l = go (accepted ss ps) (rw (accepted-alike ss ps) (fs-spoke
 
 -- an FS line that isn't valid gets 5 or 7
 pub numbered : (v : Level) (n : ℕ) (ln : Bytes) → readFs v n ln ≡ none → isRefusal (fsNumber v n ln) ≡ true
-numbered v n ln e = rw e (go (isSome (Fields.after (text "FS") ln)))
+numbered v n ln e = rw e (go (isSome (Fields.afterCapitals (text "FS") ln)))
   where
     go : (c : Bool) → isRefusal (cond c badAnswer lineNotAllowed) ≡ true
     go true = refl
@@ -133,7 +133,7 @@ plain-alike m p = go (kindDue m p) ∙ ap Log.isPlain (kind-alike m p)
     go plainKind = refl
     go framedKind = refl
 
-module _ (E : Shelf) (S : Sound E) (part : Bytes) (a : Bool) (m : Memory) where
+module _ (E : Shelf) (S : SoundChoice E) (part : Bytes) (a : Bool) (m : Memory) where
   -- a whole line's outcome for the session, and its effect on the log
   AfterLine : Awaited → Outcome → Effect → Type 0
   AfterLine p o e = After E (settled (idle (aLine p) part a m) true o) (effected e)
@@ -165,12 +165,12 @@ module _ (E : Shelf) (S : Sound E) (part : Bytes) (a : Bool) (m : Memory) where
       go : (c d : Bool)
           → AfterLine (awaitsSid c) (cond d (goesOn (afterSid c) k []) (refuses noForwarding))
           (cond d (effect (bookOf k) (accountOf m) (theySay (Log.afterTheirSid c))) (effect (bookOf m) (accountOf m) Next.over))
-      go true true = quiet _ (aLine awaitsPrompt) k (no-line, tt)
-      go false true = quiet _ (newTurn false) k (no-line, omega arith)
+      go true true = quiet _ (aLine awaitsPrompt) k (no-line-yet, tt)
+      go false true = quiet _ (newTurn false) k (no-line-yet, omega arith)
       go c false = wrong-line _ _ _ refl refl refl
 
   -- what we say at the prompt is our opening for the log
-  sign-on-spoken : spoken (E .table) (bookOf m) (at (weOpen ourSidLine) (accountOf m)) (ourSignOn m) ≡ at (ourNewTurn false) (accountOf m)
+  sign-on-spoken : spoken (E .table) (bookOf m) (standsAt (weOpen ourSidLine) (accountOf m)) (ourSignOn m) ≡ standsAt (ourNewTurn false) (accountOf m)
   sign-on-spoken = sid-spoken (E .table) (bookOf m) (accountOf m)
 
   text-line : (c : Bool)
@@ -178,7 +178,7 @@ module _ (E : Shelf) (S : Sound E) (part : Bytes) (a : Bool) (m : Memory) where
   unfolding AfterLine
   text-line true =
       our-turn E S (ourSignOn m) false m (idle (aLine awaitsPrompt) part a m) true (courseWith (weOpen ourSidLine) (accountOf m)) sign-on-spoken
-  text-line false = quiet awaitsPrompt (aLine awaitsPrompt) m (no-line, tt)
+  text-line false = quiet awaitsPrompt (aLine awaitsPrompt) m (no-line-yet, tt)
 
   -- FF, and a whole block
   after-ff : (p : Awaited) → AfterLine p (speakNow E [] true (turnMarks m)) (effect (Log.withStates (bookOf m) (forwardedSent (m .sending) (m .states))) (withForwarded (accountOf m)) (ourNewTurn true))
@@ -186,7 +186,7 @@ module _ (E : Shelf) (S : Sound E) (part : Bytes) (a : Bool) (m : Memory) where
   after-ff p =
       rw (← marked-alike (m .sending) (m .states))
       (our-turn E S [] true (turnMarks m) (idle (aLine p) part a m) true (courseWith (ourNewTurn true) (withForwarded (accountOf m)))
-      (spoken-nil (E .table) (bookOf (turnMarks m)) (at (ourNewTurn true) (withForwarded (accountOf m)))))
+      (spoken-nil (E .table) (bookOf (turnMarks m)) (standsAt (ourNewTurn true) (withForwarded (accountOf m)))))
 
   after-block : (p : Awaited) (q : Proposal) (qs : List Proposal) → length (q ∷ qs) ≤ blockLimit
       → AfterLine p (answered E (q ∷ qs) (turnMarks m)) (effect (Log.withStates (bookOf m) (forwardedSent (m .sending) (m .states))) (withForwarded (accountOf m)) (weSay (ourAnswer (q ∷ qs))))
@@ -206,7 +206,7 @@ module _ (E : Shelf) (S : Sound E) (part : Bytes) (a : Bool) (m : Memory) where
           (theirSaid ff (map proposes ps ++ (proposes q ∷ [])) (raw ++ withCr part) (bookOf m) (accountOf m) (inOrder ff (cond c Log.unfinished Log.wrong)))
       five ff ps q true e =
           rw (map-snoc ps q)
-          (quiet _ (aLine (awaitsTurn ff (ps ++ (q ∷ [])) (raw ++ withCr part))) m (no-line, simp length-append (omega (arith, ltb-true (length ps) blockLimit e))))
+          (quiet _ (aLine (awaitsTurn ff (ps ++ (q ∷ [])) (raw ++ withCr part))) m (no-line-yet, simp length-append (omega (arith, ltb-true (length ps) blockLimit e))))
       five ff ps q false e = wrong-line _ _ _ refl refl refl
 
       -- the checksum is right or wrong
@@ -243,13 +243,13 @@ module _ (E : Shelf) (S : Sound E) (part : Bytes) (a : Bool) (m : Memory) where
       (says E (idle (aLine (awaitsAnswer is)) part a m) true (newTurn false) (answerMarks is ss m) (transfersText (E .table) (accepted ss is))
       (courseWith (Log.oursOwed (accepted ss is)) told)
       (transfers-spoken (E .table) (bookOf (answerMarks is ss m)) (accepted ss is) told)
-      (no-line, omega arith)))
+      (no-line-yet, omega arith)))
     where
       told : Account
       told = accountOf (withCounts (answerMarks is ss m .counts) m)
 
   -- the line that is awaited
-  read-line : (p : Awaited) → Few p → AfterLine p (awaitedJudged E p m part) (theirRead (lineOf p) (bookOf m) (accountOf m) part)
+  read-line : (p : Awaited) → Few p → AfterLine p (awaitedJudged E p m part) (theirRead (awaitedLineOf p) (bookOf m) (accountOf m) part)
   read-line (awaitsSid c) f = sid-line c (readSid (trim part))
   read-line awaitsPrompt f = text-line (isPrompt (trim part))
   read-line (awaitsTurn ff ps raw) f = turn-line ff ps raw (readTurnLine (m .framed) (trim part)) f
@@ -257,29 +257,29 @@ module _ (E : Shelf) (S : Sound E) (part : Bytes) (a : Bool) (m : Memory) where
       answer-line is (fsNumber (m .terms .level) (length is) (trim part)) (readFs (m .terms .level) (length is) (trim part)) (numbered (m .terms .level) (length is) (trim part))
 
   -- a comment, which the log ignores
-  comment-heard : (p : Awaited) → Few p → AfterLine p (commentJudged E p m part) (effect (bookOf m) (accountOf m) (theySay (lineOf p)))
-  comment-heard p f = quiet p (aLine p) m (no-line, f)
+  comment-heard : (p : Awaited) → Few p → AfterLine p (commentJudged E p m part) (effect (bookOf m) (accountOf m) (theySay (awaitedLineOf p)))
+  comment-heard p f = quiet p (aLine p) m (no-line-yet, f)
 
   -- a comment, or the line
-  heard : (p : Awaited) → Few p → AfterLine p (lineJudged E p m part) (theirLine (lineOf p) (bookOf m) (accountOf m) part)
+  heard : (p : Awaited) → Few p → AfterLine p (lineJudged E p m part) (theirLine (awaitedLineOf p) (bookOf m) (accountOf m) part)
   heard p f = go (isComment (trim part))
     where
       go : (c : Bool)
           → AfterLine p (cond c (commentJudged E p m part) (awaitedJudged E p m part))
-          (cond c (effect (bookOf m) (accountOf m) (theySay (lineOf p))) (theirRead (lineOf p) (bookOf m) (accountOf m) part))
+          (cond c (effect (bookOf m) (accountOf m) (theySay (awaitedLineOf p))) (theirRead (awaitedLineOf p) (bookOf m) (accountOf m) part))
       go true = comment-heard p f
       go false = read-line p f
 
   -- a byte of a line: it ends, it goes on, or it is too long
   line-byte : (p : Awaited) (b : ℕ) → length part ≤ lineLimit → Few p
       → After E (lineStep E p (idle (aLine p) part a m) b)
-      (cond (eqb b CR) (effected (judgedLine (lineOf p) (bookOf m) (accountOf m) part)) (twin (aLine p) false m (part ++ (b ∷ []))))
+      (cond (eqb b CR) (effected (judgedLine (awaitedLineOf p) (bookOf m) (accountOf m) part)) (twin (aLine p) false m (part ++ (b ∷ []))))
   unfolding AfterLine
   line-byte p b z f = go (eqb b CR) (ltb (length part) lineLimit) refl
     where
       go : (c d : Bool) → ltb (length part) lineLimit ≡ d
           → After E (lineMoved E p (idle (aLine p) part a m) b (cond c ends (cond d grows overruns)))
-          (cond c (effected (judgedLine (lineOf p) (bookOf m) (accountOf m) part)) (twin (aLine p) false m (part ++ (b ∷ []))))
+          (cond c (effected (judgedLine (awaitedLineOf p) (bookOf m) (accountOf m) part)) (twin (aLine p) false m (part ++ (b ∷ []))))
       go true d e = rw (le-leb (length part) lineLimit z) (heard p f)
       go false true e =
           went refl
@@ -297,10 +297,10 @@ module _ (E : Shelf) (S : Sound E) (part : Bytes) (a : Bool) (m : Memory) where
       → After E (settled (idle p part a m) c (nextTransfer E ps k)) (after c k (courseWith (theirsOwed ps) (accountOf k)))
   next-transfer p c [] k =
       our-turn E S [] false k (idle p part a m) c (courseWith (ourNewTurn false) (accountOf k))
-      (spoken-nil (E .table) (bookOf k) (at (ourNewTurn false) (accountOf k)))
+      (spoken-nil (E .table) (bookOf k) (standsAt (ourNewTurn false) (accountOf k)))
   next-transfer p c (q ∷ qs) k =
       says E (idle p part a m) c (awaitsTransfer q qs (scanFrom (kindDue k q))) k [] (courseWith (theirTransfer q qs) (accountOf k))
-      (spoken-nil (E .table) (bookOf k) (at (theirTransfer q qs) (accountOf k)))
+      (spoken-nil (E .table) (bookOf k) (standsAt (theirTransfer q qs) (accountOf k)))
       (from (roomFor E k) (kindDue k q))
 
   transfer-byte : (p : Proposal) (ps : List Proposal) (sc : Scan) (u : Bytes) (b : ℕ) → Reach (roomFor E m) (kindDue m p) (goes sc) u
@@ -344,14 +344,14 @@ module _ (E : Shelf) (S : Sound E) (part : Bytes) (a : Bool) (m : Memory) where
 -- ---------------------------------------------------------------- any byte
 
 -- with no bytes waiting the log is the session's twin
-is-twin : (E : Shelf) (p : Phase) (part : Bytes) (a : Bool) (m : Memory) (f : Fed) (h : Live E (idle p part a m) f) → f ≡ twin p a m (h .unit)
+is-twin : (E : Shelf) (p : Phase) (part : Bytes) (a : Bool) (m : Memory) (f : Fed) (h : LogInStep E (idle p part a m) f) → f ≡ twin p a m (h .unit)
 is-twin E p part a m f h =
     ap (withSpoken f) (spoken-alone (E .table) (f .log .book) (f .log .course, f .raw) (courseOf p m, h .unit) (h .course))
     ∙ ap (λ (k : Book). record { log = logWith (f .log .afterCr) (courseOf p m) k; raw = h .unit }) (h .book)
     ∙ ap (λ (c : Bool). twin p c m (h .unit)) (h .afterCr)
 
-free-byte : (E : Shelf) → Sound E → (p : Phase) (part : Bytes) (a : Bool) (o : Bytes) (m : Memory) (f : Fed) (b : ℕ)
-    → endedIn p o ≡ false → Live E (holding p part a o m) f
+free-byte : (E : Shelf) → SoundChoice E → (p : Phase) (part : Bytes) (a : Bool) (o : Bytes) (m : Memory) (f : Fed) (b : ℕ)
+    → endedIn p o ≡ false → LogInStep E (holding p part a o m) f
     → After E (freeStep E o (holding p part a o m) b) (tookFree (E .table) f b)
 free-byte E S p part a [] m f b n h =
     subst (λ (g : Fed). After E (phaseStep E p (idle p part a m) b) (tookFree (E .table) g b)) (sym (is-twin E p part a m f h))
@@ -360,10 +360,10 @@ free-byte E S p part a (x ∷ o) m f b n h =
     rw (spoken-ours (E .table) (f .log .book) (f .log .course, f .raw) (courseOf p m, h .unit) x o (h .course))
     (refusal E (holding p part a (x ∷ o) m) bytesWait (outOfOrder f) refl refl (h .book))
 
-drop-lf : (E : Shelf) (s : Session) (f : Fed) → Live E s f → Live E (withAfterCr false s) (record { log = Log.withAfterCr (f .log) false; raw = f .raw })
+drop-lf : (E : Shelf) (s : Session) (f : Fed) → LogInStep E s f → LogInStep E (withAfterCr false s) (record { log = Log.withAfterCr (f .log) false; raw = f .raw })
 drop-lf E s f h = record { unit = h .unit; course = h .course; book = h .book; afterCr = refl; pending = h .pending }
 
-pub live-byte : (E : Shelf) → Sound E → (s : Session) (f : Fed) (b : ℕ) → ended s ≡ false → Live E s f → After E (step E s b) (fedByte (E .table) f (took b))
+pub live-byte : (E : Shelf) → SoundChoice E → (s : Session) (f : Fed) (b : ℕ) → ended s ≡ false → LogInStep E s f → After E (step E s b) (fedByte (E .table) f (took b))
 live-byte E S s f b n h = go (s .afterCr && eqb b LF) (f .log .afterCr && eqb b LF) (ap (λ (c : Bool). c && eqb b LF) (h .afterCr))
   where
     go : (c d : Bool) → d ≡ c
@@ -375,6 +375,6 @@ live-byte E S s f b n h = go (s .afterCr && eqb b LF) (f .log .afterCr && eqb b 
     go false true e = absurd (let z : _≡_ {A = ℕ} 0 1 = cc in omega arith)
 
 -- THE STEP
-pub step-inv : (E : Shelf) → Sound E → (s : Session) (f : Fed) (b : ℕ) → ended s ≡ false → Inv E s f → Inv E (step E s b .session) (fedByte (E .table) f (took b))
+pub step-inv : (E : Shelf) → SoundChoice E → (s : Session) (f : Fed) (b : ℕ) → ended s ≡ false → Inv E s f → Inv E (step E s b .session) (fedByte (E .table) f (took b))
 step-inv E S s f b e (live h) = after-inv (live-byte E S s f b e h)
 step-inv E S s f b e (gone h) = absurd (let k : true ≡ false = sym (ap (λ (p : Phase). endedIn p (s .out)) (h .done)) ∙ e in let z : _≡_ {A = ℕ} 0 1 = cc in omega arith)

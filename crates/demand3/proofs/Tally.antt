@@ -23,8 +23,8 @@ use Rattle.log.proofs.Spoken.{gave-spoken}
 use Rattle.log.proofs.Units.{fedOpened, fed-append, logs-agree}
 use Rattle.demand3.specs.Demand.{Call, receiving, giving, refusedCall, run, GoodTable}
 use Rattle.demand3.specs.Tally.{isRefusal, told, memoryAfter, logTold, Tallied}
-use Rattle.demand3.proofs.Choice.{Sound, sound}
-use Rattle.demand3.proofs.Inv.{courseOf, bookOf, Live, After, went, halted, give-live}
+use Rattle.demand3.proofs.Choice.{SoundChoice, sound}
+use Rattle.demand3.proofs.Inv.{courseOf, bookOf, LogInStep, After, went, halted, give-live}
 use Rattle.demand3.proofs.Step.{live-byte}
 use Rattle.demand3.proofs.Demand.{open-live}
 use Rattle.demand3.proofs.Balance.{asked-is, Balanced, SessionBalanced, byte-balances, give-balances, open-balances, proposed-few}
@@ -61,7 +61,7 @@ over-stays E (receiving bs ∷ cs) s e = go (ended s) (ap (λ (p : Phase). ended
 over-stays E (giving room ∷ cs) s e = over-stays E cs (give s room) e
 over-stays E (refusedCall ∷ cs) s e = over-stays E cs s e
 
-module _ (E : Shelf) (S : Sound E) where
+module _ (E : Shelf) (S : SoundChoice E) where
   -- the log fed with these events is the twin of a session in this phase with this memory
   record Twin (f : Fed) (es : List Event) (m : Memory) : Type 0 where
     phase : Phase
@@ -70,7 +70,7 @@ module _ (E : Shelf) (S : Sound E) where
     balanced : Balanced E phase m
 
   -- what waits for give
-  waiting-told : (s : Session) (f : Fed) → Live E s f → SessionBalanced E s → Twin f (map gave (s .out)) (s .memory)
+  waiting-told : (s : Session) (f : Fed) → LogInStep E s f → SessionBalanced E s → Twin f (map gave (s .out)) (s .memory)
   waiting-told s f h B =
       let e = gave-spoken (E .table) (s .out) f (courseOf (s .phase) (s .memory), h .unit) (h .course) in
       record { phase = s .phase; course = ap (λ (g : Fed). g .log .course) e; book = ap (λ (g : Fed). g .log .book) e ∙ h .book; balanced = B }
@@ -79,7 +79,7 @@ module _ (E : Shelf) (S : Sound E) where
 
   -- taken: every byte that is counted; refused: all but the last, k of them. last: the session just before that one
   data Took (f : Fed) (bs : Bytes) (last : Session) (r : Received) : Type 0 where
-    taken : isRefusal (r .answer) ≡ false → Live E (r .session) (fedAll (E .table) f (map took (take (r .count) bs))) → SessionBalanced E (r .session) → Took f bs last r
+    taken : isRefusal (r .answer) ≡ false → LogInStep E (r .session) (fedAll (E .table) f (map took (take (r .count) bs))) → SessionBalanced E (r .session) → Took f bs last r
     refused : isRefusal (r .answer) ≡ true → (k : ℕ) → r .count ≡ suc k → r .session .phase ≡ Phase.over
         → Twin f (map took (take k bs) ++ map gave (last .out)) (r .session .memory) → Took f bs last r
 
@@ -89,11 +89,11 @@ module _ (E : Shelf) (S : Sound E) where
       refused e (suc k) (ap suc n) p (record { phase = t .phase; course = t .course; book = t .book; balanced = t .balanced })
 
   -- a byte is refused
-  byte-refused : (s : Session) (f : Fed) (b : ℕ) (bs : Bytes) → Live E s f → SessionBalanced E s → isRefusal (step E s b .answer) ≡ true
+  byte-refused : (s : Session) (f : Fed) (b : ℕ) (bs : Bytes) → LogInStep E s f → SessionBalanced E s → isRefusal (step E s b .answer) ≡ true
       → step E s b .session .phase ≡ Phase.over → Took f (b ∷ bs) s (stoppedAt (step E s b))
   byte-refused s f b bs h B e p = refused e 0 refl p (subst (Twin f (map gave (s .out))) (sym (refusal-keeps E s b e)) (waiting-told s f h B))
 
-  receive-on : (bs : Bytes) (s : Session) (f : Fed) → ended s ≡ false → Live E s f → SessionBalanced E s → Took f bs (lastByte E s bs) (receiveOn E s bs)
+  receive-on : (bs : Bytes) (s : Session) (f : Fed) → ended s ≡ false → LogInStep E s f → SessionBalanced E s → Took f bs (lastByte E s bs) (receiveOn E s bs)
   receive-on [] s f n h B = taken refl h B
   receive-on (b ∷ bs) s f n h B = go (live-byte E S s f b n h) (stops o) refl (λ d k C. receive-on bs (o .session) g d k C)
     where
@@ -104,7 +104,7 @@ module _ (E : Shelf) (S : Sound E) where
       g = fedByte (E .table) f (took b)
 
       go : After E o g → (c : Bool) → stops o ≡ c
-          → (ended (o .session) ≡ false → Live E (o .session) g → SessionBalanced E (o .session) → Took g bs (lastByte E (o .session) bs) (receiveOn E (o .session) bs))
+          → (ended (o .session) ≡ false → LogInStep E (o .session) g → SessionBalanced E (o .session) → Took g bs (lastByte E (o .session) bs) (receiveOn E (o .session) bs))
           → Took f (b ∷ bs) (cond c s (lastByte E (o .session) bs)) (cond c (stoppedAt o) (oneMore (receiveOn E (o .session) bs)))
       go (went e k) true q more = taken (ap isRefusal e) k (byte-balances E s b e B)
       go (went e k) false q more =
@@ -114,7 +114,7 @@ module _ (E : Shelf) (S : Sound E) where
       go (halted e k) false q more =
           absurd (no-both (not (eqb (o .answer) 0)) (and2 (not (eqb (o .answer) 0)) (not (eqb (o .answer) sessionEnded)) e .0) ((or2 (not (eqb (o .answer) 0)) (ended (o .session)) q) .0))
 
-  receive-told : (bs : Bytes) (s : Session) (f : Fed) → Live E s f → SessionBalanced E s → Took f bs (lastByte E s bs) (receive E s bs)
+  receive-told : (bs : Bytes) (s : Session) (f : Fed) → LogInStep E s f → SessionBalanced E s → Took f bs (lastByte E s bs) (receive E s bs)
   unfolding receive
   receive-told bs s f h B = go (ended s) refl
     where
@@ -135,7 +135,7 @@ module _ (E : Shelf) (S : Sound E) where
         balanced = t .balanced;
       }
 
-  run-told : (cs : List Call) (s : Session) (f : Fed) → Live E s f → SessionBalanced E s → Twin f (told E s cs) ((run E s cs) .0 .memory)
+  run-told : (cs : List Call) (s : Session) (f : Fed) → LogInStep E s f → SessionBalanced E s → Twin f (told E s cs) ((run E s cs) .0 .memory)
   run-told [] s f h B = waiting-told s f h B
   run-told (receiving bs ∷ cs) s f h B = go (receive-told bs s f h B) (λ g k C. run-told cs (receive E s bs .session) g k C)
     where
@@ -143,7 +143,7 @@ module _ (E : Shelf) (S : Sound E) where
       r = receive E s bs
 
       go : Took f bs (lastByte E s bs) r
-          → ((g : Fed) → Live E (r .session) g → SessionBalanced E (r .session) → Twin g (told E (r .session) cs) ((run E (r .session) cs) .0 .memory))
+          → ((g : Fed) → LogInStep E (r .session) g → SessionBalanced E (r .session) → Twin g (told E (r .session) cs) ((run E (r .session) cs) .0 .memory))
           → Twin f (told E s (receiving bs ∷ cs)) ((run E (r .session) cs) .0 .memory)
       go (taken e k C) more = rw e (then-twin f (map took (take (r .count) bs)) (told E (r .session) cs) ((run E (r .session) cs) .0 .memory) (more _ k C))
       go (refused e k n p t) more =

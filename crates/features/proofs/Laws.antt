@@ -10,7 +10,7 @@ use lib.ListN.{length, List·getD-eq-default}
 use lib.Seq.{set-out}
 use borrow.Author.Tests.{lt-ltb, le-ltb}
 use Rattle.grammar.specs.Bytes.{Bytes}
-use Rattle.grammar.specs.Sid.{letterB, letterF, noFeatures, hasFeature, withFeature, levelOf, ourLevel, levelInForce, readSid, dollarPlace, featurePlaces, levelValues}
+use Rattle.grammar.specs.Sid.{letterB, letterF, noFeatures, hasFeature, withFeature, levelOf, ourLevel, levelOfSid, readSid, dollarPlace, featurePlaces, levelValues}
 use Rattle.grammar.specs.Turns.{ourSid, fixedText}
 use Rattle.features.specs.Letters.{letterH}
 
@@ -37,10 +37,10 @@ module _ (i : ℕ) (fs : Bytes) (n : length fs ≡ featurePlaces) (h : featurePl
 
 -- v: the level of the partner's B
 module _ (fs : List ℕ) (v : ℕ) (e : v ≡ levelOf letterB fs) where
-  pub ours-lower : ourLevel < v → ourLevel ≡ levelInForce fs
-  unfolding levelInForce
+  pub ours-lower : ourLevel < v → ourLevel ≡ levelOfSid fs
+  unfolding levelOfSid
   ours-lower h = rw (← e, lt-ltb _ _ h)
 
-  pub theirs-lower : v ≤ ourLevel → v ≡ levelInForce fs
-  unfolding levelInForce
+  pub theirs-lower : v ≤ ourLevel → v ≡ levelOfSid fs
+  unfolding levelOfSid
   theirs-lower h = rw (← e, le-ltb _ _ h)

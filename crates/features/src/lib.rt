@@ -1,7 +1,7 @@
 // The set of features that a mailbox says it has, by the fixed places of their letters.
 ghost use mathlib.Core.Path.{_≡_};
 ghost use mathlib.Core.Option.{some};
-ghost use Rattle.grammar.specs.Sid.{noFeatures, hasFeature, withFeature, levelOf, readSid, framed, levelInForce};
+ghost use Rattle.grammar.specs.Sid.{noFeatures, hasFeature, withFeature, levelOf, readSid, framed, levelOfSid};
 ghost use Rattle.grammar.specs.Turns.{ourSid, fixedText};
 
 // "Letters have fixed places A = 0 to Z = 25", and `$` has one after them.
@@ -100,7 +100,7 @@ pub fn is_framed(features: FeatureSet) -> bool
 
 // The level in force with a partner that has these features: the lower of the two.
 pub fn in_force(features: FeatureSet) -> u8
-    ensures { λ r. ⌜ r ≡ levelInForce (features .levels) ⌝ }
+    ensures { λ r. ⌜ r ≡ levelOfSid (features .levels) ⌝ }
 {
     let theirs = features.level(FeatureSet::B);
     if FeatureSet::OUR_LEVEL < theirs {

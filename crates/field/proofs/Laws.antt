@@ -9,12 +9,12 @@ use lib.ListN.{length, take, drop, length-drop}
 use lib.Seq.{drop-drop, take-all}
 use borrow.Author.Tests.{eq-eqb, ne-eqb, lt-ltb, le-ltb, ltb-true, ltb-false, le-leb, lt-leb, leb-true, leb-false, not-true, not-false}
 use Rattle.grammar.specs.Bytes.{Bytes, every}
-use Rattle.grammar.specs.Fields.{parts, toFirst, afterDot, allCalls, isCall, isAt, isBody, formIs, bodyLimit, formNumber, message, file}
+use Rattle.grammar.specs.Fields.{parts, toFirst, afterDot, allCalls, isCall, isAt, isBody, formIs, bodyMax, formNumber, message, file}
 use Rattle.grammar.proofs.Basics.{suc-ltb}
 use Rattle.grammar.specs.Ascii.{char}
 use Rattle.byte.specs.Classes.{classOf}
 use Rattle.byte.specs.declared.Class.{Class}
-use Rattle.span.specs.Places.{between, upto}
+use Rattle.span.specs.Places.{bytesBetween, upto}
 use Rattle.places.specs.Places.{atMax, hierarchyMax}
 
 pub parts-upto : (l : Bytes) → parts l ≡ cond (ltb (upto (char ".") l) (length l)) (take (upto (char ".") l) l ∷ parts (drop (suc (upto (char ".") l)) l)) (l ∷ [])
@@ -42,7 +42,7 @@ dot-upto (x ∷ l) = go (eqb x (char ".")) (dot-upto l)
 
 -- a call, and what follows its point
 pub calls-step : (s : Bytes) (a e : ℕ) → a ≤ length s → e ≡ a + upto (char ".") (drop a s)
-    → allCalls (parts (drop a s)) ≡ isCall (between s a e) && cond (ltb e (length s)) (allCalls (parts (drop (e + 1) s))) true
+    → allCalls (parts (drop a s)) ≡ isCall (bytesBetween s a e) && cond (ltb e (length s)) (allCalls (parts (drop (e + 1) s))) true
 calls-step s a e h r = go (ltb (upto (char ".") (drop a s)) (length (drop a s))) refl
   where
     m : e - a ≡ upto (char ".") (drop a s)
@@ -55,7 +55,7 @@ calls-step s a e h r = go (ltb (upto (char ".") (drop a s)) (length (drop a s)))
     n = length-drop a s
 
     go : (t : Bool) → ltb (upto (char ".") (drop a s)) (length (drop a s)) ≡ t
-        → allCalls (parts (drop a s)) ≡ isCall (between s a e) && cond (ltb e (length s)) (allCalls (parts (drop (e + 1) s))) true
+        → allCalls (parts (drop a s)) ≡ isCall (bytesBetween s a e) && cond (ltb e (length s)) (allCalls (parts (drop (e + 1) s))) true
     go true q =
         let k = ltb-true (upto (char ".") (drop a s)) (length (drop a s)) q in
         rw (parts-upto (drop a s), q, d, m, lt-ltb e (length s) (omega (arith, k, n, r)))
@@ -63,7 +63,7 @@ calls-step s a e h r = go (ltb (upto (char ".") (drop a s)) (length (drop a s)))
         let k = ltb-false (upto (char ".") (drop a s)) (length (drop a s)) q in
         rw (parts-upto (drop a s), q, m, le-ltb e (length s) (omega (arith, k, n, r)), take-all (upto (char ".") (drop a s)) (drop a s) k)
 
-module _ (s : Bytes) (a e : ℕ) (r : Bool) (h : a ≤ length s) (f : e ≡ a + upto (char ".") (drop a s)) (i : r ≡ isCall (between s a e)) where
+module _ (s : Bytes) (a e : ℕ) (r : Bool) (h : a ≤ length s) (f : e ≡ a + upto (char ".") (drop a s)) (i : r ≡ isCall (bytesBetween s a e)) where
   pub calls-stop : not r ≡ true → false ≡ allCalls (parts (drop a s))
   calls-stop k = rw (calls-step s a e h f, sym i ∙ not-true r k)
 
@@ -96,10 +96,10 @@ module _ (s : Bytes) (r : Bool) (i : r ≡ allCalls (parts s)) where
 
 -- ---------------------------------------------------------------- bodies
 
-pub body-long : (n : ℕ) (x : Bytes) → bodyLimit < length x → false ≡ isBody (formIs n) x
+pub body-long : (n : ℕ) (x : Bytes) → bodyMax < length x → false ≡ isBody (formIs n) x
 body-long n x h = rw (lt-leb _ _ h)
 
-module _ (n : ℕ) (x : Bytes) (h : length x ≤ bodyLimit) where
+module _ (n : ℕ) (x : Bytes) (h : length x ≤ bodyMax) where
   pub body-message : n ≡ formNumber message → true ≡ isBody (formIs n) x
   body-message e = rw (eq-eqb _ _ e, le-leb _ _ h)
 

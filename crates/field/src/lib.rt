@@ -19,12 +19,12 @@ const BID_MAX: usize = places::BID_MAX as usize;
 const HEADING_MAX: usize = places::HEADING_MAX as usize;
 
 // The most bytes of a body.
-const BODY_LIMIT: usize = places::BODY_MAX as usize;
+const BODY_MAX: usize = places::BODY_MAX as usize;
 
 // The forms of a packed message and of a packed file.
-const MESSAGE: u8 = phase::FORM_MESSAGE;
+const FORM_MESSAGE: u8 = phase::FORM_MESSAGE;
 
-const FILE: u8 = phase::FORM_FILE;
+const FORM_FILE: u8 = phase::FORM_FILE;
 
 // 1 to n bytes of the class.
 pub fn is_field(s: &[u8], class: Class, n: usize) -> bool
@@ -64,13 +64,13 @@ pub fn is_heading(s: &[u8]) -> bool
 pub fn is_body(form: u8, s: &[u8]) -> bool
     ensures { λ r. ⌜ r ≡ isBody (formIs form) (now (s .entry)) ⌝ }
 {
-    if BODY_LIMIT < s.len() {
+    if BODY_MAX < s.len() {
         return false;
     }
-    if form == MESSAGE {
+    if form == FORM_MESSAGE {
         return true;
     }
-    if form == FILE {
+    if form == FORM_FILE {
         return true;
     }
     all_of(s, Class::PlainBody)

@@ -16,7 +16,7 @@ use Rattle.grammar.specs.Bytes.{Bytes, SP}
 use Rattle.grammar.specs.Fields.{words, starts, attach}
 use Rattle.grammar.specs.Turns.{Proposal, sevenRead, readProposal}
 use Rattle.span.specs.declared.Span.{Span}
-use Rattle.span.specs.Places.{between, part, upto, wordsBy}
+use Rattle.span.specs.Places.{bytesBetween, part, upto, wordsBy}
 use Rattle.span.proofs.Laws.{next-word, words-upto, upto-most}
 use Rattle.field_reader.specs.Reading.{spaces, fieldAt, nextFields}
 
@@ -155,12 +155,12 @@ before-c c (x ∷ l) i h = go (eqb x c) refl i h (before-c c l)
     go false e (suc i) k ih = ih i (omega arith)
 
 -- the last byte of a part
-part-last : (l : Bytes) (a e : ℕ) → a < e → getD (between l a e) (e - a - 1) 0 ≡ getD l (e - 1) 0
+part-last : (l : Bytes) (a e : ℕ) → a < e → getD (bytesBetween l a e) (e - a - 1) 0 ≡ getD l (e - 1) 0
 part-last l a e h =
     let m : a + (e - a - 1) ≡ e - 1 = omega arith in
     getD-take (e - a) (drop a l) (e - a - 1) 0 (omega arith) ∙ (getD-drop a l (e - a - 1) 0 ∙ ap (λ (i : ℕ). getD l i 0) m)
 
-part-length : (l : Bytes) (a e : ℕ) → e ≤ length l → length (between l a e) ≡ e - a
+part-length : (l : Bytes) (a e : ℕ) → e ≤ length l → length (bytesBetween l a e) ≡ e - a
 part-length l a e h = let n = length-drop a l in length-take-le (e - a) (drop a l) (omega (arith, n))
 
 -- the field's last byte is no space

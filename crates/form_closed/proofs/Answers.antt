@@ -10,7 +10,7 @@ use lib.ListN.{length, drop}
 use borrow.Author.Tests.{eqb-true}
 use Rattle.grammar.specs.Bytes.{Bytes, LF, isSome, byteValues}
 use Rattle.grammar.specs.Ascii.{text}
-use Rattle.grammar.specs.Fields.{after}
+use Rattle.grammar.specs.Fields.{afterCapitals}
 use Rattle.grammar.specs.Lines.{LineByte, dropped, ends, grows, overruns, lineByte, trim, isComment, isPrompt}
 use Rattle.grammar.specs.Sid.{readSid, hasFeature, letterF}
 use Rattle.grammar.specs.Turns.{TurnLine, saysFF, saysFQ, endsBlock, notAllowed, proposes, endsSummed, readTurnLine, blockLimit}
@@ -18,20 +18,20 @@ use Rattle.grammar.specs.Answers.{readFs}
 use Rattle.grammar.specs.Refusals.{noPlace, badMemory, sessionEnded}
 use Rattle.grammar.proofs.Basics.{by-cond}
 use Rattle.fs_line.specs.Answers.{answerNumber}
-use Rattle.transfer_step.specs.declared.Stepped.{Stepped}
-use Rattle.transfer_step.specs.declared.Outcome.{Outcome}
-use Rattle.transfer_step.specs.declared.Outcome.the-variants.{More, Whole, Malformed, WrongSum, NoRoom}
+use Rattle.transfer_step.specs.declared.ReadStep.{ReadStep}
+use Rattle.transfer_step.specs.declared.ReadOutcome.{ReadOutcome}
+use Rattle.transfer_step.specs.declared.ReadOutcome.the-variants.{More, Whole, Malformed, WrongSum, NoRoom}
 use Rattle.transfer_step.specs.Step.{stepOf}
 use Rattle.transfer_read.specs.Feed.{roomOf}
 use Rattle.session_memory.specs.State.{loadOf}
 use Rattle.session_memory.specs.Session.{Session}
 use Rattle.our_answer.specs.Answers.{answersOf}
-use Rattle.line_effect.specs.Judge.{sidRead, sidLine, textLine, nextAccepted, endLine, summedLine, proposalLine, ffLine, fqLine, lineSum, turnRead, turnLine, answerLine, commentLine, judgeOf}
+use Rattle.line_effect.specs.Judge.{sidTaken, sidLine, textLine, nextAccepted, endLine, summedLine, proposalTaken, ffLine, fqLine, lineSum, turnRead, turnLine, answerLine, commentLine, judgeOf}
 use Rattle.line_effect.specs.Judged.{Judged}
 use Rattle.waiting.specs.Waiting.{waitingOf}
 use Rattle.pending.specs.Pending.{waits, overOf}
 use Rattle.form_test.specs.Form.{formOf}
-use Rattle.receive_defined.specs.Receiving.{Cs, cs, Moved, Settled, settleOf, lineMoved, lineStepOf, keepOf, transferMoved, transferStep, transferStepOf, byteOf, Run, stops, receiveFrom, unchanged, saved, receiveOf}
+use Rattle.receive_defined.specs.Receiving.{Cs, cs, Moved, LineDone, settleOf, lineMoved, lineStepOf, keepOf, transferMoved, transferStep, transferStepOf, byteOf, Run, stops, receiveFrom, unchanged, saved, receiveOf}
 use Rattle.give.specs.Giving.{reply, giveOf, handing, Given}
 use Rattle.phase.specs.Phase.{phaseCalledSid, phaseCallerSid, phasePrompt, phaseTurn, phaseFs, phaseTransfer, noProposal}
 use Rattle.form_closed.specs.Fixed.{Fixed}
@@ -50,11 +50,11 @@ OtherJ j = eqb (j .answer) badMemory ≡ false
 number-other : (v n : ℕ) (ln : Bytes) → Other (answerNumber v n ln)
 unfolding answerNumber
 number-other v n ln =
-    by-cond Other (ltb blockLimit n) (by-cond Other (isSome (after (text "FS") ln)) refl refl)
-    (by-cond Other (isSome (readFs v n ln)) refl (by-cond Other (isSome (after (text "FS") ln)) refl refl))
+    by-cond Other (ltb blockLimit n) (by-cond Other (isSome (afterCapitals (text "FS") ln)) refl refl)
+    (by-cond Other (isSome (readFs v n ln)) refl (by-cond Other (isSome (afterCapitals (text "FS") ln)) refl refl))
 
 module _ (s : Session) (table known inbox : Bytes) (store : ℕ) where
-  sid-other : (o : Option (List ℕ)) → OtherJ (sidRead o s)
+  sid-other : (o : Option (List ℕ)) → OtherJ (sidTaken o s)
   sid-other none = refl
   sid-other (some fs) = by-cond OtherJ (hasFeature letterF fs) refl refl
 
@@ -63,7 +63,7 @@ module _ (s : Session) (table known inbox : Bytes) (store : ℕ) where
   end-other = by-cond OtherJ (eqb (s .now .proposals) 0) refl (by-cond OtherJ (eqb (nextAccepted (answersOf (s .now) (s .keep) table known inbox store) 0) noProposal) refl refl)
 
   turn-other : (n : ℕ) (l : TurnLine) → OtherJ (turnRead l n s table known inbox store)
-  unfolding ffLine fqLine summedLine proposalLine
+  unfolding ffLine fqLine summedLine proposalTaken
   turn-other n saysFF = by-cond OtherJ (eqb (s .now .proposals) 0) (by-cond OtherJ (s .now .ff) refl refl) refl
   turn-other n saysFQ = by-cond OtherJ (eqb (s .now .proposals) 0) (by-cond OtherJ (s .now .ff) refl refl) refl
   turn-other n endsBlock = end-other
@@ -84,7 +84,7 @@ module _ (s : Session) (table known inbox : Bytes) (store : ℕ) where
 
 settle-other : (j : Judged) (p : Bool) (table : Bytes) → OtherJ j → Other (settleOf j p table .answer)
 unfolding settleOf
-settle-other j p table h = by-cond (λ (o : Settled). Other (o .answer)) (eqb (j .answer) 0) refl h
+settle-other j p table h = by-cond (λ (o : LineDone). Other (o .answer)) (eqb (j .answer) 0) refl h
 
 line-other : (s : Session) (b : ℕ) (table known inbox : Bytes) (store : ℕ) → Other (lineStepOf s b table known inbox store .answer)
 unfolding lineStepOf
@@ -104,14 +104,14 @@ transfer-other : (c : Cs) (b : ℕ) → Other (transferStepOf c b .answer)
 unfolding transferStepOf
 transfer-other c b = go (stepOf (roomOf (drop (c .session .keep .used) (c .store))) (c .session .reading .reader) b)
   where
-    at : (o : Outcome) (s : Session) (table inbox store : Bytes) → Other (transferMoved o s table inbox store .answer)
+    at : (o : ReadOutcome) (s : Session) (table inbox store : Bytes) → Other (transferMoved o s table inbox store .answer)
     at More s table inbox store = refl
     at Whole s table inbox store = keep-other s table
     at Malformed s table inbox store = refl
     at WrongSum s table inbox store = refl
     at NoRoom s table inbox store = refl
 
-    go : (t : Stepped) → Other (transferStep c b t .answer)
+    go : (t : ReadStep) → Other (transferStep c b t .answer)
     go t = at (t .outcome) _ (c .table) (c .inbox) _
 
 abbrev OtherM : Moved → Type 0

@@ -11,11 +11,11 @@ use borrow.Author.Tests.{eqb-true, ltb-true}
 use Rattle.grammar.specs.Bytes.{Bytes, CR, LF, byteValues}
 use Rattle.grammar.specs.Refusals.{lineTooLong, badTransfer, badChecksum, storeFull, bytesWait}
 use Rattle.grammar.specs.Lines.{LineByte, ends, grows, overruns, lineLimit}
-use Rattle.grammar.specs.Fields.{bodyLimit}
+use Rattle.grammar.specs.Fields.{bodyMax}
 use Rattle.grammar.proofs.Basics.{no-both}
-use Rattle.transfer_step.specs.declared.Stepped.{Stepped}
-use Rattle.transfer_step.specs.declared.Outcome.{Outcome}
-use Rattle.transfer_step.specs.declared.Outcome.the-variants.{More, Whole, Malformed, WrongSum, NoRoom}
+use Rattle.transfer_step.specs.declared.ReadStep.{ReadStep}
+use Rattle.transfer_step.specs.declared.ReadOutcome.{ReadOutcome}
+use Rattle.transfer_step.specs.declared.ReadOutcome.the-variants.{More, Whole, Malformed, WrongSum, NoRoom}
 use Rattle.transfer_step.specs.Step.{stepOf}
 use Rattle.transfer_read.specs.Feed.{headingPut, roomOf}
 use Rattle.transfer_read.proofs.Room.{step-within}
@@ -23,10 +23,10 @@ use Rattle.session_memory.specs.Session.{Session}
 use Rattle.line_effect.specs.Judge.{judgeOf}
 use Rattle.waiting.specs.Waiting.{waitingOf, firstText, thenText}
 use Rattle.pending.specs.Pending.{waits}
-use Rattle.receive_defined.specs.Receiving.{Cs, cs, moved, refusedOf, Settled, lineMoved, lineStepOf, reading, transferMoved, transferStep, transferStepOf, lfDropped, lineByteOf, byteOf, run, stops, receiveFrom}
+use Rattle.receive_defined.specs.Receiving.{Cs, cs, moved, refusedOf, LineDone, lineMoved, lineStepOf, reading, transferMoved, transferStep, transferStepOf, lfDropped, lineByteOf, byteOf, runWith, stops, receiveFrom}
 use Rattle.phase.specs.Phase.{phaseTransfer}
 use Rattle.form_closed.specs.Fixed.{Fixed}
-use Rattle.form_closed.specs.Facts.{Octets, ReaderOk, Under, Lent, Good}
+use Rattle.form_closed.specs.Facts.{Octets, ReaderOk, Under, LentSized, Good}
 use Rattle.form_closed.proofs.Laws.{octets-first, octets-rest, octets-set}
 use Rattle.form_closed.proofs.Judged.{SessionOk, session-ok, good-by, ok-line}
 use Rattle.form_closed.proofs.Lines.{judge-ok}
@@ -52,13 +52,13 @@ module _ (F : Fixed) (nt ni ns : ℕ) (c : Cs) (b : ℕ) (G : Good F nt ni ns c)
     abbrev room : ℕ
     room = roomOf (drop (c .session .keep .used) (c .store))
 
-    room-left : (room ≤ bodyLimit) × (c .session .keep .used + room ≤ length (c .store)) × (c .session .reading .reader .body ≤ room)
+    room-left : (room ≤ bodyMax) × (c .session .keep .used + room ≤ length (c .store)) × (c .session .reading .reader .body ≤ room)
     room-left =
         let l = length-drop (c .session .keep .used) (c .store) in
         let w = G .box .within in
         (omega arith, omega arith, omega (arith, U .short, U .room))
 
-    moved-ok : (t : Stepped) → ReaderOk (t .reader) × (t .reader .body ≤ room) → Good F nt ni ns (transferStep c b t .cs)
+    moved-ok : (t : ReadStep) → ReaderOk (t .reader) × (t .reader .body ≤ room) → Good F nt ni ns (transferStep c b t .cs)
     moved-ok t h = go (t .outcome)
       where
         st : Bytes
@@ -87,7 +87,7 @@ module _ (F : Fixed) (nt ni ns : ℕ) (c : Cs) (b : ℕ) (G : Good F nt ni ns c)
               room = omega (arith, size, room-left .1, h .1);
             }
 
-        M : Lent nt ni ns (c .table) (c .inbox) st
+        M : LentSized nt ni ns (c .table) (c .inbox) st
         M =
             let n = size ∙ G .lent .store in
             let o = stored-octets (c .session .keep .used) (t .put) (c .session .reading .reader) b (c .store) O (G .lent .storeOctets) in
@@ -96,7 +96,7 @@ module _ (F : Fixed) (nt ni ns : ℕ) (c : Cs) (b : ℕ) (G : Good F nt ni ns c)
         ended : (n : ℕ) → Good F nt ni ns (cs (refusedOf n s) (c .table) (c .inbox) st)
         ended n = refused-good F nt ni ns n s (c .table) (c .inbox) st S M
 
-        go : (o : Outcome) → Good F nt ni ns (transferMoved o s (c .table) (c .inbox) st .cs)
+        go : (o : ReadOutcome) → Good F nt ni ns (transferMoved o s (c .table) (c .inbox) st .cs)
         go More = good-by S (record { quiet = λ a k. Z; under = λ e. U′; closed = λ l. absurd (omega arith) }) (λ e. absurd (no-both (waits (c .session .say)) e E)) M
         go Whole = keep-ok F nt ni ns s (c .table) (c .inbox) st S U′ Z (waits-none (c .session .say) E .1) M
         go Malformed = ended badTransfer
@@ -120,7 +120,7 @@ module _ (F : Fixed) (nt ni ns : ℕ) (c : Cs) (b : ℕ) (G : Good F nt ni ns c)
       l : Bytes
       l = take (c .session .line .len) (c .session .line .bytes)
 
-      out : LineByte → Settled
+      out : LineByte → LineDone
       out x = lineMoved x (c .session) b (c .table) known (c .inbox) (length (c .store))
 
       go : (d e : Bool) → ltb (c .session .line .len) lineLimit ≡ e
@@ -164,6 +164,6 @@ receive-ok F nt ni ns known (b ∷ bs) c n o g =
     go (stops (byteOf known c b)) h (receive-ok F nt ni ns known bs (byteOf known c b .cs) (suc n) (octets-rest o) h)
   where
     go : (a : Bool) → Good F nt ni ns (byteOf known c b .cs) → Good F nt ni ns (receiveFrom known (byteOf known c b .cs) (suc n) bs .cs)
-        → Good F nt ni ns (cond a (run (byteOf known c b .answer) (suc n) (byteOf known c b .cs)) (receiveFrom known (byteOf known c b .cs) (suc n) bs) .cs)
+        → Good F nt ni ns (cond a (runWith (byteOf known c b .answer) (suc n) (byteOf known c b .cs)) (receiveFrom known (byteOf known c b .cs) (suc n) bs) .cs)
     go true h k = h
     go false h k = k

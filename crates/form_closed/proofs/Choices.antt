@@ -9,7 +9,7 @@ use lib.ListN.{length, length-map, length-append}
 use Rattle.grammar.specs.Bytes.{Bytes}
 use Rattle.grammar.specs.Turns.{Proposal, blockLimit}
 use Rattle.grammar.specs.Answers.{writeSign, Sign, accept, decline, defer}
-use Rattle.grammar.specs.Fields.{bodyLimit}
+use Rattle.grammar.specs.Fields.{bodyMax}
 use Rattle.mail.specs.Mail.{Record, Message, accepted, recordLimit}
 use Rattle.session.specs.Choices.{chosen, answersTo, Shelf, bodyBytes, announced, haveBid, noRoomFor, withAccepted, answersAfter}
 use Rattle.session.proofs.Choices.{few, Places, chosen-places, one-sign-each}
@@ -21,7 +21,7 @@ use Rattle.session_memory.specs.Session.{Await}
 use Rattle.session_memory.specs.Session.{Keep}
 use Rattle.session_memory.proofs.Laws.{held-five}
 use Rattle.our_turn.specs.Turn.{chooseOf}
-use Rattle.our_answer.specs.Answers.{shelfOf, answersOf}
+use Rattle.our_answer.specs.Answers.{shelfWithFree, answersOf}
 use Rattle.entries.specs.Decoded.{recordCount, recordsOf, headsOf, proposalsOf, placeCount}
 use Rattle.marking.specs.States.{statesOf}
 use Rattle.entries.proofs.Laws.{entries-length}
@@ -55,7 +55,7 @@ module _ (E : Shelf) (ms : List Message) where
     where
       free : noRoomFor E ms acc (p .size) ≡ false → length ms + length acc < E .places
       free e =
-          let f = (or2 (ltb bodyLimit (p .size)) (ltb (E .bytes - bodyBytes ms - announced acc) (p .size) || not (ltb (length ms + length acc) (E .places))) e) .1 in
+          let f = (or2 (ltb bodyMax (p .size)) (ltb (E .bytes - bodyBytes ms - announced acc) (p .size) || not (ltb (length ms + length acc) (E .places))) e) .1 in
           let g = (or2 (ltb (E .bytes - bodyBytes ms - announced acc) (p .size)) (not (ltb (length ms + length acc) (E .places))) f) .1 in
           ltb-true (length ms + length acc) (E .places) (not-false (ltb (length ms + length acc) (E .places)) g)
 
@@ -93,7 +93,7 @@ pub answers-ok : (w : Await) (k : Keep) (table known inbox : Bytes) (n : ℕ) �
     → AnswersOk w k inbox (answersOf w k table known inbox n)
 unfolding answersOf headsOf proposalsOf
 answers-ok w k table known inbox n h b =
-    let E = shelfOf table known inbox (n - k .used) in
+    let E = shelfWithFree table known inbox (n - k .used) in
     let ms : List Message = headsOf inbox (k .kept) in
     let ps : List Proposal = proposalsOf (w .block) (min blockLimit (w .proposals)) in
     let ss = answersTo E ms ps in

@@ -8,7 +8,7 @@ use native.Mathlib.Omega.{arith}
 use lib.Dec.{eqb, ltb}
 use lib.ListN.{length-replicate, length}
 use borrow.Author.Tests.{ltb-true}
-use Rattle.grammar.specs.Bytes.{Bytes, byteValues, wordValues}
+use Rattle.grammar.specs.Bytes.{Bytes, byteValues, wordValues, flag}
 use Rattle.grammar.specs.Refusals.{badMemory, sessionEnded, noPlace}
 use Rattle.grammar.proofs.Basics.{no-both, by-test}
 use Rattle.buffer.specs.Put.{cut}
@@ -17,7 +17,7 @@ use Rattle.places.specs.Places.{numbersStart, partners, deferredLen, headingLen
 use Rattle.layout.specs.Layout.{le8}
 use Rattle.layout.proofs.Laws.{octets}
 use Rattle.transfer_step.specs.Names.{titlePlace}
-use Rattle.session_memory.specs.State.{at, flag, loadOf, loadSizes, sizesOut, saveSizes, freshOf}
+use Rattle.session_memory.specs.State.{cursorAt, loadOf, loadSizes, sizesOut, saveSizes, freshOf}
 use Rattle.session_memory.specs.Session.{Session}
 use Rattle.session_memory.specs.declared.Sizes.{Sizes}
 use Rattle.session_memory.proofs.Laws.{sizes-length, Sized, sizes-saved, load-sizes}
@@ -42,7 +42,7 @@ use Rattle.form_closed.proofs.Laws.{octets-append, octets-put, octets-l
 use Rattle.form_closed.proofs.Waiting.{waiting-some}
 use Rattle.form_closed.proofs.Judged.{session-ok, good-by, ok-say, none-ok, reader-begins, still-awaited}
 use Rattle.form_closed.proofs.Bytes.{receive-ok}
-use Rattle.form_closed.proofs.Saved.{same-itself, parted, good, saved-form}
+use Rattle.form_closed.proofs.Saved.{sizes-same-itself, parted, good, saved-form}
 use Rattle.form_closed.specs.InForm.{InForm}
 
 -- ---------------------------------------------------------------- receive
@@ -151,7 +151,7 @@ mark-written sm z h = ap markOk (sizes-saved sm z h)
 
 octets-written : (sm : Bytes) (z : Sizes) → Octets sm → Octets (saveSizes sm z)
 unfolding saveSizes
-octets-written sm z o = octets-put sm (at 0) (sizesOut z) o (sizes-octets z)
+octets-written sm z o = octets-put sm (cursorAt 0) (sizesOut z) o (sizes-octets z)
 
 -- a session right after open
 fresh-good : (F : Fixed) (caller : Bool) (partner : ℕ) → partner < partners → (t : Tally) → TallyOk t → (table inbox store : Bytes) → Octets table → Octets inbox → Octets store → length store < wordValues
@@ -202,7 +202,7 @@ module _ (L : Lending) (o : Octets (L .session)) (ot : Octets (L .table)) (oi : 
       let n = sizes-told L (p .before) .session in
       let sm = L .session in
       let z = sizesLent L in
-      let y : sameSizes (loadSizes (saveSizes sm z)) z ≡ true = rw (load-sizes sm z (omega arith) h) (same-itself z) in
+      let y : sameSizes (loadSizes (saveSizes sm z)) z ≡ true = rw (load-sizes sm z (omega arith) h) (sizes-same-itself z) in
       subst (λ (l : Bytes). InForm (fixedOf L) l (L .table) (L .inbox) (L .store)) (sym (p .left))
       (saved-form (fixedOf L) (saveSizes sm z) (length (L .table)) (length (L .inbox)) (length (L .store)) (cs (begun L) (L .table) (L .inbox) (L .store)) begun-good
       (octets-written sm z o) (sizes-length sm z ∙ n) (mark-written sm z (omega arith)) y)

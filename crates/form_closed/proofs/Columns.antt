@@ -10,9 +10,9 @@ use Rattle.grammar.specs.Bytes.{Bytes, LF}
 use Rattle.grammar.specs.Lines.{LineByte, dropped, ends, grows, overruns, lineByte}
 use Rattle.grammar.proofs.Basics.{by-cond}
 use Rattle.places.specs.Places.{partners}
-use Rattle.transfer_step.specs.declared.Outcome.{Outcome}
-use Rattle.transfer_step.specs.declared.Outcome.the-variants.{More, Whole, Malformed, WrongSum, NoRoom}
-use Rattle.transfer_step.specs.declared.Stepped.{Stepped}
+use Rattle.transfer_step.specs.declared.ReadOutcome.{ReadOutcome}
+use Rattle.transfer_step.specs.declared.ReadOutcome.the-variants.{More, Whole, Malformed, WrongSum, NoRoom}
+use Rattle.transfer_step.specs.declared.ReadStep.{ReadStep}
 use Rattle.transfer_step.specs.Step.{stepOf}
 use Rattle.transfer_read.specs.Feed.{roomOf}
 use Rattle.session_memory.specs.State.{held}
@@ -25,7 +25,7 @@ use Rattle.line_effect.proofs.Kept.{judge-kept}
 use Rattle.our_turn.proofs.Ways.{speak-keep}
 use Rattle.phase.specs.Phase.{noProposal, phaseTransfer}
 use Rattle.pending.specs.Pending.{waits}
-use Rattle.receive_defined.specs.Receiving.{Cs, cs, Moved, refusedOf, spokenOf, markedBy, Settled, settled, settleOf, longer, lineMoved, lineStepOf, nextJudged, isPlainAt, keepOf, transferMoved, transferStep, transferStepOf, byteOf, stops, Run, receiveFrom}
+use Rattle.receive_defined.specs.Receiving.{Cs, cs, Moved, refusedOf, spokenOf, markedBy, LineDone, lineDone, settleOf, longer, lineMoved, lineStepOf, nextJudged, isPlainAt, keepOf, transferMoved, transferStep, transferStepOf, byteOf, stops, Run, receiveFrom}
 use Rattle.form_closed.specs.Columns.{partnerOf, OneColumn}
 
 pub column-same : (c : Cs) → OneColumn c c
@@ -41,12 +41,12 @@ column-then c d e p q =
 -- ---------------------------------------------------------------- a whole line or transfer
 
 -- The partner p is named, and only its states have changed in the table t.
-record InOne (p : ℕ) (t : Bytes) (v : Settled) : Type 0 where
+record InOne (p : ℕ) (t : Bytes) (v : LineDone) : Type 0 where
   pub partner : partnerOf (v .session) ≡ p
   pub table : StatesOnly p t (v .table)
 
 module _ (p : ℕ) (column : p < partners) (t : Bytes) where
-  in-same : (n : ℕ) (s : Session) → partnerOf s ≡ p → InOne p t (settled n s t)
+  in-same : (n : ℕ) (s : Session) → partnerOf s ≡ p → InOne p t (lineDone n s t)
   in-same n s e = record { partner = e; table = only-same p t }
 
   module _ (j : Judged) (a : Bool) where
@@ -97,7 +97,7 @@ module _ (known : Bytes) where
           let h = line-one (partnerOf (c .session)) column (c .table) (c .session) b known (c .inbox) (length (c .store)) refl l in
           record { partner = h .partner; table = h .table }
 
-      went : (o : Outcome) (s : Session) (inbox store : Bytes) → s .keep ≡ c .session .keep → OneColumn c (transferMoved o s (c .table) inbox store .cs)
+      went : (o : ReadOutcome) (s : Session) (inbox store : Bytes) → s .keep ≡ c .session .keep → OneColumn c (transferMoved o s (c .table) inbox store .cs)
       went More s inbox store e = record { partner = ap (λ (k : Keep). k .terms .partner) e; table = only-same _ (c .table) }
       went Whole s inbox store e =
           let h = kept-one (partnerOf (c .session)) column (c .table) s (ap (λ (k : Keep). k .terms .partner) e) in
@@ -106,7 +106,7 @@ module _ (known : Bytes) where
       went WrongSum s inbox store e = record { partner = ap (λ (k : Keep). k .terms .partner) e; table = only-same _ (c .table) }
       went NoRoom s inbox store e = record { partner = ap (λ (k : Keep). k .terms .partner) e; table = only-same _ (c .table) }
 
-      transfer : (x : Stepped) → OneColumn c (transferStep c b x .cs)
+      transfer : (x : ReadStep) → OneColumn c (transferStep c b x .cs)
       transfer x = went (x .outcome) _ _ _ refl
 
   pub receive-column : (bs : Bytes) (c : Cs) (n : ℕ) → partnerOf (c .session) < partners → OneColumn c (receiveFrom known c n bs .cs)

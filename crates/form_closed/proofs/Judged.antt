@@ -34,7 +34,7 @@ use Rattle.form_test.specs.Form.{usedBy}
 use Rattle.phase.specs.Phase.{phaseTurn, phaseFs, phaseTransfer, phaseLeaving, pieceBlock, notOurTurn}
 use Rattle.places.specs.Places.{deferredLen, proposalLen}
 use Rattle.form_closed.specs.Fixed.{Fixed}
-use Rattle.form_closed.specs.Facts.{Octets, FiveOk, AwaitOk, SayOk, KeepOk, ReaderOk, HeadingOk, LineOk, TallyOk, Box, Last, Awaited, Lent, Good}
+use Rattle.form_closed.specs.Facts.{Octets, FiveOk, AwaitOk, SayOk, KeepOk, ReaderOk, HeadingOk, LineOk, TallyOk, InboxFits, Last, AwaitedFits, LentSized, Good}
 use Rattle.form_closed.proofs.Laws.{octets-zeros}
 
 -- ---------------------------------------------------------------- a session
@@ -47,10 +47,10 @@ pub record SessionOk (inbox store : Bytes) (s : Session) : Type 0 where
   pub heading : HeadingOk (s .reading .heading)
   pub line : LineOk (s .line)
   pub tally : TallyOk (s .tally)
-  pub box : Box (s .keep) inbox store
+  pub box : InboxFits (s .keep) inbox store
 
 abbrev pub AwaitedIn : Bytes → Bytes → Session → Type 0
-AwaitedIn inbox store s = Awaited (s .now) (s .say) (s .keep) (s .reading .reader) inbox store
+AwaitedIn inbox store s = AwaitedFits (s .now) (s .say) (s .keep) (s .reading .reader) inbox store
 
 -- what the test says of a state, taken apart and put together
 module _ {F : Fixed} {nt ni ns : ℕ} {c : Cs} where
@@ -59,7 +59,7 @@ module _ {F : Fixed} {nt ni ns : ℕ} {c : Cs} where
 
   pub good-by : SessionOk (c .inbox) (c .store) (c .session) → AwaitedIn (c .inbox) (c .store) (c .session)
       → (waits (c .session .say) ≡ true → c .session .say .pos < length (waitingOf (c .session) (c .table) (F .titles) (F .names) (F .bodies)))
-      → Lent nt ni ns (c .table) (c .inbox) (c .store) → Good F nt ni ns c
+      → LentSized nt ni ns (c .table) (c .inbox) (c .store) → Good F nt ni ns c
   good-by h a w l = search (h, a, w, l)
 
 module _ {inbox store : Bytes} {s : Session} (g : SessionOk inbox store s) where
@@ -69,7 +69,7 @@ module _ {inbox store : Bytes} {s : Session} (g : SessionOk inbox store s) where
   pub ok-say : {y : Say} → SayOk y → SessionOk inbox store (withSay y s)
   ok-say h = search (h, g)
 
-  pub ok-keep : {k : Keep} {i t : Bytes} → KeepOk k → Box k i t → SessionOk i t (withKeep k s)
+  pub ok-keep : {k : Keep} {i t : Bytes} → KeepOk k → InboxFits k i t → SessionOk i t (withKeep k s)
   ok-keep h b = search (h, b, g)
 
   pub ok-reader : {r : Reader} → ReaderOk r → SessionOk inbox store (withReading (withReader r (s .reading)) s)
@@ -94,7 +94,7 @@ pub record JudgedOk (inbox store : Bytes) (j : Judged) : Type 0 where
 -- ---------------------------------------------------------------- its parts
 
 -- messages kept and store used are the same
-pub box-as : (k j : Keep) (inbox store : Bytes) → j .kept ≡ k .kept → j .used ≡ k .used → Box k inbox store → Box j inbox store
+pub box-as : (k j : Keep) (inbox store : Bytes) → j .kept ≡ k .kept → j .used ≡ k .used → InboxFits k inbox store → InboxFits j inbox store
 box-as k j inbox store e f b =
     record {
       limit = b .limit;

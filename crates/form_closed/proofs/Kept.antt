@@ -15,23 +15,23 @@ use Rattle.places.specs.Places.{entryLen, fieldsSize, proposalLen, headingMax}
 use Rattle.layout.specs.Layout.{entryAt, entryOut, le2, le4}
 use Rattle.layout.proofs.Laws.{entry-length, length-back}
 use Rattle.layout.proofs.Places.{part-in}
-use Rattle.session_memory.specs.State.{at, held}
+use Rattle.session_memory.specs.State.{cursorAt, held}
 use Rattle.session_memory.specs.Session.{Session}
 use Rattle.session_memory.specs.Setters.{withReader, withNow, withKeep, withReading}
 use Rattle.entries.specs.Decoded.{placeCount}
 use Rattle.line_effect.specs.Judge.{noMarks, judged, toTransfer, nextAccepted, readerFor}
 use Rattle.form_test.specs.Form.{usedBy, pluses}
 use Rattle.receive_defined.specs.Receiving.{cs, nextJudged, keptKeep, keptInbox, isPlainAt, keepOf}
-use Rattle.phase.specs.Phase.{pieceNone, notOurTurn, ourTurn, noProposal}
+use Rattle.phase.specs.Phase.{pieceNone, notOurTurn, ourTurnNow, noProposal}
 use Rattle.form_closed.specs.Fixed.{Fixed}
-use Rattle.form_closed.specs.Facts.{Octets, KeepOk, Box, Under, Lent, Good}
+use Rattle.form_closed.specs.Facts.{Octets, KeepOk, InboxFits, Under, LentSized, Good}
 use Rattle.form_closed.proofs.Laws.{octets-append, octets-take, octets-part, octets-put, octets-le2, octets-le4, octets-field, held-length, next-found, plus-here, used-more}
 use Rattle.form_closed.proofs.Judged.{SessionOk, JudgedOk, ok-now, ok-keep, ok-reader, to-transfer, reader-ok, reader-body}
 use Rattle.form_closed.proofs.Settled.{settle-ok}
 
 -- s: the session at the last byte of a transfer; st: the store then
 module _ (F : Fixed) (nt ni ns : ℕ) (s : Session) (table inbox st : Bytes)
-    (G : SessionOk inbox st s) (U : Under (s .now) (s .say) (s .keep) (s .reading .reader) inbox st) (Z : s .keep .sending .count ≡ 0) (T : s .say .then ≡ pieceNone) (M : Lent nt ni ns table inbox st) where
+    (G : SessionOk inbox st s) (U : Under (s .now) (s .say) (s .keep) (s .reading .reader) inbox st) (Z : s .keep .sending .count ≡ 0) (T : s .say .then ≡ pieceNone) (M : LentSized nt ni ns table inbox st) where
   -- the proposal that it answers, as it lies in the block
   proposed-length : length (entryAt proposalLen (s .now .block) (s .now .current)) ≡ proposalLen
   proposed-length =
@@ -51,7 +51,7 @@ module _ (F : Fixed) (nt ni ns : ℕ) (s : Session) (table inbox st : Bytes)
 
   kept-length : length (keptInbox s inbox) ≡ length inbox
   unfolding keptInbox
-  kept-length = put-length inbox (at (s .keep .kept * entryLen)) entry
+  kept-length = put-length inbox (cursorAt (s .keep .kept * entryLen)) entry
 
   kept-places : placeCount (keptInbox s inbox) ≡ placeCount inbox
   kept-places = ap (λ (n : ℕ). n / entryLen) kept-length
@@ -78,7 +78,7 @@ module _ (F : Fixed) (nt ni ns : ℕ) (s : Session) (table inbox st : Bytes)
       (entry-length c h (s .keep .used) (s .reading .reader .body) l) has-place (length-back c h (s .keep .used) (s .reading .reader .body) l (omega (arith, U .short)))
       ∙ ap (λ (n : ℕ). n + s .reading .reader .body) (G .box .used)
 
-  kept-box : Box (keptKeep s) (keptInbox s inbox) st
+  kept-box : InboxFits (keptKeep s) (keptInbox s inbox) st
   kept-box =
       record {
         limit = omega (arith, kept-places, G .box .limit);
@@ -90,11 +90,11 @@ module _ (F : Fixed) (nt ni ns : ℕ) (s : Session) (table inbox st : Bytes)
   kept-ok : SessionOk (keptInbox s inbox) st (withKeep (keptKeep s) s)
   kept-ok = let k : KeepOk (keptKeep s) = search (G .keep) in ok-keep G k kept-box
 
-  kept-lent : Lent nt ni ns table (keptInbox s inbox) st
+  kept-lent : LentSized nt ni ns table (keptInbox s inbox) st
   unfolding keptInbox
   kept-lent =
       let n = kept-length ∙ M .inbox in
-      let o = octets-put inbox (at (s .keep .kept * entryLen)) entry (M .inboxOctets) entry-octets in
+      let o = octets-put inbox (cursorAt (s .keep .kept * entryLen)) entry (M .inboxOctets) entry-octets in
       search (n, o, M)
 
   abbrev next : ℕ
@@ -104,7 +104,7 @@ module _ (F : Fixed) (nt ni ns : ℕ) (s : Session) (table inbox st : Bytes)
   next-ok : JudgedOk (keptInbox s inbox) st (nextJudged s next)
   next-ok = by-test (JudgedOk (keptInbox s inbox) st) (eqb next noProposal) ours theirs
     where
-      ours : eqb next noProposal ≡ true → JudgedOk (keptInbox s inbox) st (judged 0 ourTurn noMarks (withKeep (keptKeep s) s))
+      ours : eqb next noProposal ≡ true → JudgedOk (keptInbox s inbox) st (judged 0 ourTurnNow noMarks (withKeep (keptKeep s) s))
       ours e = record { next = kept-ok; state = omega arith; sent = λ l. absurd (omega arith); quiet = λ x. Z; awaited = λ x. absurd (no-both false x refl) }
 
       theirs : eqb next noProposal ≡ false

@@ -19,7 +19,7 @@ use Rattle.buffer.specs.declared.Cursor.{Cursor}
 use Rattle.places.specs.Places.{entryLen}
 use Rattle.layout.specs.Layout.{le2, le4, le8, entryAt, bodyLength, fieldOut}
 use Rattle.layout.proofs.Places.{entry-written, entry-kept}
-use Rattle.session_memory.specs.State.{at, held, fiveOf}
+use Rattle.session_memory.specs.State.{cursorAt, held, fiveOf}
 use Rattle.session_memory.specs.declared.Five.{Five}
 use Rattle.session_memory.proofs.Laws.{five-length}
 use Rattle.line_effect.specs.Judge.{plusFrom, nextAccepted, picked, flagged}
@@ -142,32 +142,32 @@ held-octets f h = octets-take (f .count) (f .items) (h .octets)
 -- ---------------------------------------------------------------- the next accepted proposal
 
 -- Where a plus is found: as many entries on, it is one, and none stands before it.
-pub record Found (i : ℕ) (xs : List ℕ) (p : ℕ) : Type 0 where
+pub record PlusFound (i : ℕ) (xs : List ℕ) (p : ℕ) : Type 0 where
   pub on : ℕ
   pub place : p ≡ i + on
   pub within : on < length xs
   pub plus : getD xs on 0 ≡ plusSign
   pub same : pluses xs ≡ pluses (drop on xs)
 
-pub plus-found : (i : ℕ) (xs : List ℕ) → eqb (plusFrom i xs) noProposal ≡ false → Found i xs (plusFrom i xs)
+pub plus-found : (i : ℕ) (xs : List ℕ) → eqb (plusFrom i xs) noProposal ≡ false → PlusFound i xs (plusFrom i xs)
 plus-found i [] e = let z : true ≡ false = e in let y : _≡_ {A = ℕ} 0 1 = cc in absurd (omega arith)
 plus-found i (x ∷ xs) e = go (eqb x plusSign) refl (λ q. plus-found (suc i) xs q) e
   where
-    go : (t : Bool) → eqb x plusSign ≡ t → (eqb (plusFrom (suc i) xs) noProposal ≡ false → Found (suc i) xs (plusFrom (suc i) xs))
-        → eqb (cond t i (plusFrom (suc i) xs)) noProposal ≡ false → Found i (x ∷ xs) (cond t i (plusFrom (suc i) xs))
+    go : (t : Bool) → eqb x plusSign ≡ t → (eqb (plusFrom (suc i) xs) noProposal ≡ false → PlusFound (suc i) xs (plusFrom (suc i) xs))
+        → eqb (cond t i (plusFrom (suc i) xs)) noProposal ≡ false → PlusFound i (x ∷ xs) (cond t i (plusFrom (suc i) xs))
     go true q ih e = record { on = 0; place = omega arith; within = omega arith; plus = eqb-true x plusSign q; same = refl }
     go false q ih e =
         let f = ih e in
         record { on = suc (f .on); place = omega (arith, f .place); within = omega (arith, f .within); plus = f .plus; same = rw q (f .same) }
 
 -- The place of the next plus among five signs.
-pub record Next (signs : Five) (i p : ℕ) : Type 0 where
+pub record NextPlus (signs : Five) (i p : ℕ) : Type 0 where
   pub on : i ≤ p
   pub within : p < signs .count
   pub plus : getD (signs .items) p 0 ≡ plusSign
   pub same : pluses (drop i (held signs)) ≡ pluses (drop p (held signs))
 
-pub next-found : (signs : Five) (i : ℕ) → FiveOk signs → i ≤ signs .count → eqb (nextAccepted signs i) noProposal ≡ false → Next signs i (nextAccepted signs i)
+pub next-found : (signs : Five) (i : ℕ) → FiveOk signs → i ≤ signs .count → eqb (nextAccepted signs i) noProposal ≡ false → NextPlus signs i (nextAccepted signs i)
 unfolding nextAccepted
 next-found signs i h k e =
     let f = plus-found i (drop i (held signs)) e in
@@ -212,11 +212,11 @@ used-kept d e i (suc n) h = rw (h i (omega arith), used-kept d e (suc i) n (λ j
 
 -- one entry more
 pub used-more : (inbox : Bytes) (k : ℕ) (c : Bytes) (n : ℕ) → length c ≡ entryLen → k < length inbox / entryLen → bodyLength c ≡ n
-    → usedBy (putBytes inbox (at (k * entryLen)) c) (suc k) ≡ usedBy inbox k + n
+    → usedBy (putBytes inbox (cursorAt (k * entryLen)) c) (suc k) ≡ usedBy inbox k + n
 unfolding usedBy
 used-more inbox k c n l h b =
     let m : k * entryLen + entryLen ≤ length inbox = omega arith in
-    let e : Bytes = putBytes inbox (at (k * entryLen)) c in
+    let e : Bytes = putBytes inbox (cursorAt (k * entryLen)) c in
     used-snoc e 0 k
     ∙ (let p = used-kept inbox e 0 k (λ j q. entry-kept entryLen inbox k c l m j (omega arith)) in
     let w : bodyLength (entryAt entryLen e k) ≡ n = ap bodyLength (entry-written entryLen inbox k c l m) ∙ b in

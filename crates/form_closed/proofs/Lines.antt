@@ -15,7 +15,7 @@ use Rattle.grammar.specs.Refusals.{notSid, noForwarding, lineNotAllowed, propos
 use Rattle.grammar.proofs.Basics.{no-both, by-cond, by-test}
 use Rattle.grammar.specs.Fields.{formNumber}
 use Rattle.grammar.specs.Lines.{trim, isComment, isPrompt}
-use Rattle.grammar.specs.Sid.{readSid, hasFeature, framed, levelInForce, letterF}
+use Rattle.grammar.specs.Sid.{readSid, hasFeature, framed, levelOfSid, letterF}
 use Rattle.grammar.proofs.Levels.{lower-than-both}
 use Rattle.grammar.specs.Turns.{Proposal, TurnLine, saysFF, saysFQ, endsBlock, notAllowed, proposes, endsSummed, readTurnLine, blockLimit}
 use Rattle.grammar.specs.Answers.{plusSign, equalSign}
@@ -24,7 +24,7 @@ use Rattle.fs_line.specs.Answers.{answerNumber, answerSigns}
 use Rattle.buffer.proofs.Laws.{put-length}
 use Rattle.places.specs.Places.{proposalLen}
 use Rattle.layout.specs.Layout.{proposalOut}
-use Rattle.session_memory.specs.State.{at, held, fiveOf}
+use Rattle.session_memory.specs.State.{cursorAt, held, fiveOf}
 use Rattle.session_memory.specs.declared.Five.{Five}
 use Rattle.session_memory.specs.Session.{Await}
 use Rattle.session_memory.specs.declared.Say.{Say}
@@ -33,11 +33,11 @@ use Rattle.session_memory.specs.Session.{Session}
 use Rattle.session_memory.specs.Setters.{withReader, withNow, withSay, withKeep, withReading}
 use Rattle.our_answer.specs.Answers.{answersOf}
 use Rattle.entries.specs.Decoded.{placeCount}
-use Rattle.line_effect.specs.Judge.{noMarks, judged, refusal, wentOn, inPhase, toTurn, toTransfer, saysFirst, saysThen, saysSigns, withMode, sends, sidRead, sidLine, signOnPiece, textLine, turnMarks, settledKeep, wholeTurn, nextAccepted, readerFor, answered, endLine, summedLine, withProposal, proposalLine, ffLine, fqLine, lineSum, turnRead, turnLine, picked, flagged, transfersAfter, answerTaken, answerLine, commentLine, judgeOf}
+use Rattle.line_effect.specs.Judge.{noMarks, judged, refusal, wentOn, inPhase, toTurn, toTransfer, saysFirst, saysThen, saysSigns, withMode, sends, sidTaken, sidLine, signOnPiece, textLine, turnMarks, settledKeep, wholeTurn, nextAccepted, readerFor, answered, endLine, summedLine, withProposal, proposalTaken, ffLine, fqLine, lineSum, turnRead, turnLine, picked, flagged, transfersAfter, answerTaken, answerLine, commentLine, judgeOf}
 use Rattle.line_effect.specs.Judged.{Judged}
 use Rattle.line_effect.specs.declared.Marks.{Marks}
 use Rattle.form_test.specs.Form.{pluses, isLast}
-use Rattle.phase.specs.Phase.{phaseCalledSid, phaseCallerSid, phasePrompt, phaseTurn, phaseFs, phaseOver, pieceNone, pieceSigns, pieceBlock, pieceTransfers, notOurTurn, ourTurn, ourTurnAfterFF, noProposal}
+use Rattle.phase.specs.Phase.{phaseCalledSid, phaseCallerSid, phasePrompt, phaseTurn, phaseFs, phaseOver, pieceNone, pieceSigns, pieceBlock, pieceTransfers, notOurTurn, ourTurnNow, ourTurnAfterFF, noProposal}
 use Rattle.form_closed.proofs.Laws.{octets-put, flag-octets, picked-octets, five-of, held-length, held-octets, next-found, length-flagged, picked-few}
 use Rattle.form_closed.specs.Facts.{AwaitOk, SayOk, KeepOk, Last}
 use Rattle.form_closed.proofs.Proposals.{proposal-octets}
@@ -97,11 +97,11 @@ module _ (table known inbox store : Bytes) (s : Session) (G : SessionOk inbox st
           let t : Session = withNow (toTurn false w) (withKeep (withMode md v k) s) in
           on t noMarks (ok-now (kept md v l) (to-turn false w (G .now))) (omega arith) not-sent (calm t inbox store z (λ e. omega arith) (omega arith))
 
-      go : (o : Option (List ℕ)) → Ok (sidRead o s)
+      go : (o : Option (List ℕ)) → Ok (sidTaken o s)
       go none = same notSid
       go (some fs) =
           let l = lower-than-both fs .0 in
-          by-cond Ok (hasFeature letterF fs) (heard (framed fs) (levelInForce fs) (omega (arith, l)) (eqb (w .phase) phaseCallerSid)) (same noForwarding)
+          by-cond Ok (hasFeature letterF fs) (heard (framed fs) (levelOfSid fs) (omega (arith, l)) (eqb (w .phase) phaseCallerSid)) (same noForwarding)
 
   sign-on-byte : signOnPiece s < byteValues
   sign-on-byte = omega arith
@@ -109,7 +109,7 @@ module _ (table known inbox store : Bytes) (s : Session) (G : SessionOk inbox st
   text-ok : (ln : Bytes) → k .sending .count ≡ 0 → Ok (textLine ln s)
   unfolding textLine
   text-ok ln z =
-      by-cond Ok (isPrompt ln) (turn ourTurn refl (withSay (saysFirst (signOnPiece s) y) s) noMarks (ok-say G (says-first (signOnPiece s) y sign-on-byte (G .say))) (omega arith) T z) (same 0)
+      by-cond Ok (isPrompt ln) (turn ourTurnNow refl (withSay (saysFirst (signOnPiece s) y) s) noMarks (ok-say G (says-first (signOnPiece s) y sign-on-byte (G .say))) (omega arith) T z) (same 0)
 
   ff-ok : Ok (ffLine s)
   unfolding ffLine
@@ -122,8 +122,8 @@ module _ (table known inbox store : Bytes) (s : Session) (G : SessionOk inbox st
       let over : Ok (wentOn t) = on t noMarks (ok-now G (in-phase phaseOver w (omega arith) (G .now))) (omega arith) not-sent (free t inbox store (λ a b. omega arith) (λ e. omega arith) (λ l. silent)) in
       by-cond Ok (eqb (w .proposals) 0) (by-cond Ok (w .ff) over (same lineNotAllowed)) (same lineNotAllowed)
 
-  proposal-ok : (md : Bool) (q : Proposal) (n : ℕ) → Proper md q → w .phase ≡ phaseTurn → Ok (proposalLine q n s)
-  unfolding proposalLine
+  proposal-ok : (md : Bool) (q : Proposal) (n : ℕ) → Proper md q → w .phase ≡ phaseTurn → Ok (proposalTaken q n s)
+  unfolding proposalTaken
   proposal-ok md q n h p = by-test Ok (ltb (w .proposals) blockLimit) (λ e. taken (more (ltb-true (w .proposals) blockLimit e))) (λ e. same proposalCount)
     where
       c : Bytes
@@ -133,8 +133,8 @@ module _ (table known inbox store : Bytes) (s : Session) (G : SessionOk inbox st
       more l =
           let m : withProposal q n w .proposals ≤ blockLimit = omega arith in
           let z : withProposal q n w .sum < byteValues = omega arith in
-          let b = put-length (w .block) (at (w .proposals * proposalLen)) c ∙ G .now .block in
-          let o = octets-put (w .block) (at (w .proposals * proposalLen)) c (G .now .octets) (proposal-octets md q h) in
+          let b = put-length (w .block) (cursorAt (w .proposals * proposalLen)) c ∙ G .now .block in
+          let o = octets-put (w .block) (cursorAt (w .proposals * proposalLen)) c (G .now .octets) (proposal-octets md q h) in
           search (m, z, b, o, G .now)
 
       taken : AwaitOk (withProposal q n w) → Ok (wentOn (withNow (withProposal q n w) s))
@@ -143,7 +143,7 @@ module _ (table known inbox store : Bytes) (s : Session) (G : SessionOk inbox st
           on t noMarks (ok-now G g) (omega arith) not-sent (free t inbox store (λ a b. a p) (λ x. omega arith) (λ l. silent))
 
   answered-ok : (f : Five) → AnswersOk w k inbox f → Ok (answered f (nextAccepted f 0) s)
-  answered-ok f h = by-test Ok (eqb (nextAccepted f 0) noProposal) (λ e. whole-turn ourTurn refl (withSay (saysSigns f y) s) (ok-say G said) T) begins
+  answered-ok f h = by-test Ok (eqb (nextAccepted f 0) noProposal) (λ e. whole-turn ourTurnNow refl (withSay (saysSigns f y) s) (ok-say G said) T) begins
     where
       i : ℕ
       i = nextAccepted f 0

@@ -8,10 +8,10 @@ use lib.Dec.{eqb}
 use lib.ListN.{length, take, drop, length-append, length-take, length-drop, length-set}
 use Rattle.grammar.specs.Bytes.{Bytes, byteValues, twoByteValues, fourByteValues}
 use Rattle.grammar.specs.Transfers.{blockSize}
-use Rattle.grammar.specs.Fields.{bodyLimit}
+use Rattle.grammar.specs.Fields.{bodyMax}
 use Rattle.grammar.proofs.Basics.{by-cond}
 use Rattle.transfer_step.specs.declared.Reader.{Reader}
-use Rattle.transfer_step.specs.declared.Stepped.{Stepped}
+use Rattle.transfer_step.specs.declared.ReadStep.{ReadStep}
 use Rattle.transfer_step.specs.Step.{stepOf}
 use Rattle.transfer_step.specs.Names.{headingPlace, dataPlace, toHeading, toBody}
 use Rattle.transfer_step.proofs.Ways.{by-ways}
@@ -22,13 +22,13 @@ use Rattle.form_closed.proofs.Laws.{octets-append, octets-take, octets-
 
 -- ---------------------------------------------------------------- the reader after a byte of a transfer
 
-module _ (room : ℕ) (r : Reader) (b : ℕ) (R : ReaderOk r) (M : room ≤ bodyLimit) (O : b < byteValues) where
+module _ (room : ℕ) (r : Reader) (b : ℕ) (R : ReaderOk r) (M : room ≤ bodyMax) (O : b < byteValues) where
   block-size : blockSize b < twoByteValues
   block-size = by-cond (λ (n : ℕ). n < twoByteValues) (eqb b 0) (omega arith) (omega arith)
 
   pub step-stays : ReaderOk (stepOf room r b .reader)
   step-stays =
-      by-ways room r b (λ (t : Stepped). ReaderOk (t .reader))
+      by-ways room r b (λ (t : ReadStep). ReaderOk (t .reader))
       (record {
         ends = λ o. R;
         skips = R;

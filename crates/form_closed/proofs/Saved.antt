@@ -14,7 +14,7 @@ use Rattle.buffer.specs.Put.{putBytes}
 use Rattle.places.specs.Places.{arraysAt, numbersStart, sessionLen, sizeStore}
 use Rattle.layout.specs.Layout.{byteAt}
 use Rattle.layout.proofs.Laws.{octets, le8-small}
-use Rattle.session_memory.specs.State.{at, loadOf, loadSizes, arraysOut, numberPart, saveOf}
+use Rattle.session_memory.specs.State.{cursorAt, loadOf, loadSizes, arraysOut, numberPart, saveOf}
 use Rattle.session_memory.specs.Session.{Session}
 use Rattle.session_memory.specs.declared.Sizes.{Sizes}
 use Rattle.session_memory.proofs.Laws.{save-length, save-first, save-sizes-kept, load-save}
@@ -34,9 +34,9 @@ pub record Marked (F : Fixed) (sm table inbox store : Bytes) : Type 0 where
   pub mark : markOk sm ≡ true
   pub sizes : sameSizes (loadSizes sm) (lentSizes table (F .titles) (F .names) (F .bodies) (F .known) inbox store) ≡ true
 
-pub same-itself : (z : Sizes) → sameSizes z z ≡ true
+pub sizes-same-itself : (z : Sizes) → sameSizes z z ≡ true
 unfolding sameSizes
-same-itself z =
+sizes-same-itself z =
     both (eqb (z .table) (z .table)) _ (eq-eqb (z .table) (z .table) refl)
     (both (eqb (z .titles) (z .titles)) _ (eq-eqb (z .titles) (z .titles) refl)
     (both (eqb (z .names) (z .names)) _ (eq-eqb (z .names) (z .names) refl)
@@ -97,8 +97,8 @@ module _ (F : Fixed) (sm : Bytes) (nt ni ns : ℕ) (c : Cs) (g : Good F nt ni ns
   saved-octets : Octets (saveOf sm (c .session))
   unfolding saveOf
   saved-octets =
-      octets-put (putBytes sm (at numbersStart) (numberPart (c .session))) (at arraysAt) (arraysOut (c .session))
-      (octets-put sm (at numbersStart) (numberPart (c .session)) o (part-octets F nt ni ns c g)) (arrays-octets F nt ni ns c g)
+      octets-put (putBytes sm (cursorAt numbersStart) (numberPart (c .session))) (cursorAt arraysAt) (arraysOut (c .session))
+      (octets-put sm (cursorAt numbersStart) (numberPart (c .session)) o (part-octets F nt ni ns c g)) (arrays-octets F nt ni ns c g)
 
   pub saved-form : InForm F (saveOf sm (c .session)) (c .table) (c .inbox) (c .store)
   unfolding formOf

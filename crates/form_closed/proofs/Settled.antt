@@ -21,7 +21,7 @@ use Rattle.our_turn.specs.Turn.{chooseOf, speakOf}
 use Rattle.our_turn.proofs.Ways.{by-ways}
 use Rattle.line_effect.specs.Judged.{Judged}
 use Rattle.pending.specs.Pending.{errorPiece}
-use Rattle.receive_defined.specs.Receiving.{cs, refusedOf, afterLine, spokenOf, Settled, markedBy, settleOf}
+use Rattle.receive_defined.specs.Receiving.{cs, refusedOf, afterLine, spokenOf, LineDone, markedBy, settleOf}
 use Rattle.form_closed.proofs.Tallied.{tallied-ok, with-tally}
 use Rattle.form_test.specs.Form.{isLast}
 use Rattle.marking.specs.States.{markAll}
@@ -31,7 +31,7 @@ use Rattle.form_closed.proofs.Laws.{mark-octets}
 use Rattle.marking.proofs.States.{length-mark}
 use Rattle.form_closed.proofs.Waiting.{waiting-some}
 use Rattle.places.specs.Places.{lineLen}
-use Rattle.form_closed.specs.Facts.{AwaitOk, SayOk, LineOk, Lent, Good}
+use Rattle.form_closed.specs.Facts.{AwaitOk, SayOk, LineOk, LentSized, Good}
 use Rattle.form_closed.proofs.Choices.{choose-ok}
 use Rattle.form_closed.proofs.Judged.{SessionOk, AwaitedIn, good-by, JudgedOk, ok-now, ok-say, ok-line, in-phase, to-turn, to-answer, says-then, free, calm, still-awaited}
 
@@ -92,7 +92,7 @@ error-last n = go (isSilent n) (eqb n badChecksum)
     go false false = (omega arith, refl)
 
 -- a refusal with number n: the session is over, and nothing waits but the line that says why
-pub refused-good : (F : Fixed) (nt ni ns : ℕ) (n : ℕ) (s : Session) (table inbox store : Bytes) → SessionOk inbox store s → Lent nt ni ns table inbox store
+pub refused-good : (F : Fixed) (nt ni ns : ℕ) (n : ℕ) (s : Session) (table inbox store : Bytes) → SessionOk inbox store s → LentSized nt ni ns table inbox store
     → Good F nt ni ns (cs (refusedOf n s) table inbox store)
 unfolding refusedOf
 refused-good F nt ni ns n s table inbox store g M =
@@ -102,7 +102,7 @@ refused-good F nt ni ns n s table inbox store g M =
     (λ e. waiting-some (refusedOf n s) table (F .titles) (F .names) (F .bodies) (g .keep .sending) (λ l. absurd (omega arith)) e) M
 
 module _ (F : Fixed) (nt ni ns : ℕ) (j : Judged) (afterCr : Bool) (inbox store : Bytes) where
-  settled-good : (s : Session) (table : Bytes) → Lent nt ni ns table inbox store → Settles inbox store s → Good F nt ni ns (cs (afterLine afterCr s) table inbox store)
+  settled-good : (s : Session) (table : Bytes) → LentSized nt ni ns table inbox store → Settles inbox store s → Good F nt ni ns (cs (afterLine afterCr s) table inbox store)
   settled-good s table M h =
       let g : SessionOk inbox store s = h .ok in
       good-by
@@ -110,21 +110,21 @@ module _ (F : Fixed) (nt ni ns : ℕ) (j : Judged) (afterCr : Bool) (inbox store
       (still-awaited s inbox store (s .say .first) (s .say .then) pieceNone (h .awaited .closed) (h .awaited))
       (λ e. waiting-some (afterLine afterCr s) table (F .titles) (F .names) (F .bodies) (g .keep .sending) (h .sent) e) M
 
-  spoken-good : (table : Bytes) → Lent nt ni ns table inbox store → JudgedOk inbox store j → Good F nt ni ns (cs (spokenOf j afterCr table) table inbox store)
+  spoken-good : (table : Bytes) → LentSized nt ni ns table inbox store → JudgedOk inbox store j → Good F nt ni ns (cs (spokenOf j afterCr table) table inbox store)
   spoken-good table M J = settled-good (speakOf (j .speaks) (j .next) table) table M (speak-ok j table inbox store J)
 
-  marked-lent : (p : ℕ) (is : List ℕ) (v : ℕ) (table : Bytes) → v < byteValues → Lent nt ni ns table inbox store → Lent nt ni ns (markAll p is v table) inbox store
+  marked-lent : (p : ℕ) (is : List ℕ) (v : ℕ) (table : Bytes) → v < byteValues → LentSized nt ni ns table inbox store → LentSized nt ni ns (markAll p is v table) inbox store
   marked-lent p is v table h M =
       let n = length-mark p is v table ∙ M .table in
       let o = mark-octets p is v table h (M .tableOctets) in
       search (n, o, M)
 
-  pub settle-ok : (table : Bytes) → Lent nt ni ns table inbox store → JudgedOk inbox store j
+  pub settle-ok : (table : Bytes) → LentSized nt ni ns table inbox store → JudgedOk inbox store j
       → Good F nt ni ns (cs (settleOf j afterCr table .session) (settleOf j afterCr table .table) inbox store)
   unfolding settleOf
   settle-ok table M J =
       let t : Bytes = markedBy j table in
-      by-cond (λ (o : Settled). Good F nt ni ns (cs (o .session) (o .table) inbox store)) (eqb (j .answer) 0)
+      by-cond (λ (o : LineDone). Good F nt ni ns (cs (o .session) (o .table) inbox store)) (eqb (j .answer) 0)
       (with-tally F nt ni ns (spokenOf j afterCr t) t inbox store (tallied-ok j (spokenOf j afterCr t .now) t (J .next .tally))
       (spoken-good t (marked-lent (j .next .keep .terms .partner) (held (j .marks .places)) (j .marks .state) table (J .state) M) J))
       (refused-good F nt ni ns (j .answer) (j .next) table inbox store (J .next) M)

@@ -6,7 +6,7 @@ use lib.Dec.{eqb}
 use Rattle.grammar.specs.Bytes.{Bytes, byteValues}
 use Rattle.grammar.proofs.Basics.{by-cond}
 use Rattle.sheet.specs.declared.Sheet.{Sheet}
-use Rattle.sheet.specs.Sheet.{noSheet, proposedBy, forwardedBy, declinedBy, deferredBy}
+use Rattle.sheet.specs.Sheet.{noSheet, countProposed, countForwarded, countDeclined, countDeferred}
 use Rattle.session_memory.specs.declared.Tally.{Tally}
 use Rattle.session_memory.specs.Session.{Await, Session}
 use Rattle.session_memory.specs.Setters.{withTally}
@@ -28,22 +28,22 @@ byte : (n : ℕ) → n % byteValues < byteValues
 byte n = mod-lt n (omega arith)
 
 module _ (h : Sheet) (n : ℕ) (o : SheetOk h) where
-  proposed-ok : SheetOk (proposedBy h n)
+  proposed-ok : SheetOk (countProposed h n)
   proposed-ok = search (byte, o)
 
-  forwarded-ok : SheetOk (forwardedBy h n)
+  forwarded-ok : SheetOk (countForwarded h n)
   forwarded-ok = search (byte, o)
 
-  declined-ok : SheetOk (declinedBy h n)
+  declined-ok : SheetOk (countDeclined h n)
   declined-ok = search (byte, o)
 
-  deferred-ok : SheetOk (deferredBy h n)
+  deferred-ok : SheetOk (countDeferred h n)
   deferred-ok = search (byte, o)
 
 marked-ok : (h : Sheet) (m : Marks) → SheetOk h → SheetOk (sheetMarked h m)
 marked-ok h m o =
     by-cond SheetOk (eqb (m .state) stateForwarded) (forwarded-ok h (m .places .count) o)
-    (by-cond SheetOk (eqb (m .state) stateDeclined) (deferred-ok (declinedBy h (m .places .count)) (m .deferred) (declined-ok h (m .places .count) o)) o)
+    (by-cond SheetOk (eqb (m .state) stateDeclined) (deferred-ok (countDeclined h (m .places .count)) (m .deferred) (declined-ok h (m .places .count) o)) o)
 
 -- ---------------------------------------------------------------- the tally
 
@@ -59,7 +59,7 @@ pub tallied-ok : (j : Judged) (w : Await) (table : Bytes) → TallyOk (j .next .
 unfolding talliedOf
 tallied-ok j w table o = by-cond TallyOk (eqb (j .marks .places .count) 0) (search (o, good)) (counted-ok (j .next .keep .terms .partner) table _ good)
   where
-    good : SheetOk (proposedBy (sheetMarked (j .next .tally .sheet) (j .marks)) (proposesOf (j .speaks) w))
+    good : SheetOk (countProposed (sheetMarked (j .next .tally .sheet) (j .marks)) (proposesOf (j .speaks) w))
     good = proposed-ok (sheetMarked (j .next .tally .sheet) (j .marks)) (proposesOf (j .speaks) w) (marked-ok (j .next .tally .sheet) (j .marks) (o .sheet))
 
 -- no other fact looks at what is counted

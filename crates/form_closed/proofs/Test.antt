@@ -7,16 +7,16 @@ use native.Mathlib.Omega.{arith}
 use lib.Dec.{eqb, ltb, leb}
 use lib.ListN.{length, getD, drop, replicate}
 use borrow.Author.Tests.{eq-eqb, eqb-true, eqb-false, ltb-true, ltb-false, lt-ltb, leb-true, le-leb}
-use Rattle.grammar.specs.Bytes.{Bytes, byteValues, wordValues}
+use Rattle.grammar.specs.Bytes.{Bytes, byteValues, wordValues, flag}
 use Rattle.grammar.specs.Transfers.{partOf}
-use Rattle.grammar.specs.Fields.{bodyLimit}
+use Rattle.grammar.specs.Fields.{bodyMax}
 use Rattle.grammar.specs.Turns.{blockLimit}
 use Rattle.grammar.specs.Answers.{plusSign}
 use Rattle.grammar.proofs.Basics.{and2, both, or-second}
 use Rattle.places.specs.Places.{arraysAt, blockAt, blockLen, blockSumAt, currentAt, deferredAt, deferredLen, firstAt, headingAt, headingLen, lengthAt, lineAt, lineLen, offsetAt, oursAt, partners, phaseAt, placeAt, sendingAt, signsAt, sumAt, thenAt, tallyWaitingAt, tallyProposedAt, tallyForwardedAt, tallyDeclinedAt, tallyDeferredAt, tallyUnsettledAt}
 use Rattle.layout.specs.Layout.{byteAt, le2, le4, le8}
 use Rattle.layout.proofs.Laws.{octets}
-use Rattle.session_memory.specs.State.{at, flag, held, fiveAt, arrayAt, fiveOut, loadAwait, loadSay, loadKeep, loadReading, loadLine, loadOf, smallOut, numbersOut, tailOut, arraysOut, numberPart, loadTally}
+use Rattle.session_memory.specs.State.{cursorAt, held, fiveAt, arrayAt, fiveOut, loadAwait, loadSay, loadKeep, loadReading, loadLine, loadOf, smallOut, numbersOut, tailOut, arraysOut, numberPart, loadTally}
 use Rattle.session_memory.specs.declared.Five.{Five}
 use Rattle.session_memory.specs.Session.{Session}
 use Rattle.session_memory.proofs.Laws.{Shaped, load-shaped}
@@ -28,13 +28,13 @@ use Rattle.receive_defined.specs.Receiving.{Cs, cs}
 use Rattle.phase.specs.Phase.{phaseTurn, phaseTransfer, phaseLeaving, pieceNone}
 use Rattle.mail.specs.Mail.{placeLimit}
 use Rattle.form_closed.specs.Fixed.{Fixed}
-use Rattle.form_closed.specs.Facts.{Octets, FiveOk, Box, Under, Last, Awaited, Good}
+use Rattle.form_closed.specs.Facts.{Octets, FiveOk, InboxFits, Under, Last, AwaitedFits, Good}
 use Rattle.form_closed.proofs.Laws.{octets-nil, octets-cons, octets-append, octets-zeros, octets-part, octets-put, octets-le2, octets-le4, octets-le8}
 
 -- ---------------------------------------------------------------- the test says so, and back
 
 module _ (s : Session) (inbox store : Bytes) where
-  box-in : inboxOk s inbox store ≡ true → Box (s .keep) inbox store
+  box-in : inboxOk s inbox store ≡ true → InboxFits (s .keep) inbox store
   unfolding inboxOk
   box-in e =
       let e₁ = and2 (leb (placeCount inbox) placeLimit) _ e in
@@ -47,7 +47,7 @@ module _ (s : Session) (inbox store : Bytes) where
         within = leb-true (s .keep .used) (length store) (e₃ .1);
       }
 
-  box-out : Box (s .keep) inbox store → inboxOk s inbox store ≡ true
+  box-out : InboxFits (s .keep) inbox store → inboxOk s inbox store ≡ true
   unfolding inboxOk
   box-out b =
       both (leb (placeCount inbox) placeLimit) _ (le-leb (placeCount inbox) placeLimit (b .limit))
@@ -65,13 +65,13 @@ module _ (s : Session) (inbox store : Bytes) where
       let e₂ = and2 (eqb (s .say .signs .count) (s .now .proposals)) _ (e₁ .1) in
       let e₃ = and2 (eqb (getD (s .say .signs .items) (s .now .current) 0) plusSign) _ (e₂ .1) in
       let e₄ = and2 (leb (s .keep .kept + pluses (drop (s .now .current) (held (s .say .signs)))) (placeCount inbox)) _ (e₃ .1) in
-      let e₅ = and2 (leb (s .reading .reader .body) bodyLimit) _ (e₄ .1) in
+      let e₅ = and2 (leb (s .reading .reader .body) bodyMax) _ (e₄ .1) in
       record {
         current = ltb-true (s .now .current) (s .now .proposals) (e₁ .0);
         signs = eqb-true (s .say .signs .count) (s .now .proposals) (e₂ .0);
         plus = eqb-true (getD (s .say .signs .items) (s .now .current) 0) plusSign (e₃ .0);
         places = leb-true (s .keep .kept + pluses (drop (s .now .current) (held (s .say .signs)))) (placeCount inbox) (e₄ .0);
-        short = leb-true (s .reading .reader .body) bodyLimit (e₅ .0);
+        short = leb-true (s .reading .reader .body) bodyMax (e₅ .0);
         room = leb-true (s .keep .used + s .reading .reader .body) (length store) (e₅ .1);
       }
 
@@ -83,11 +83,11 @@ module _ (s : Session) (inbox store : Bytes) where
       (both (eqb (getD (s .say .signs .items) (s .now .current) 0) plusSign) _ (eq-eqb (getD (s .say .signs .items) (s .now .current) 0) plusSign (u .plus))
       (both (leb (s .keep .kept + pluses (drop (s .now .current) (held (s .say .signs)))) (placeCount inbox)) _
       (le-leb (s .keep .kept + pluses (drop (s .now .current) (held (s .say .signs)))) (placeCount inbox) (u .places))
-      (both (leb (s .reading .reader .body) bodyLimit) _ (le-leb (s .reading .reader .body) bodyLimit (u .short))
+      (both (leb (s .reading .reader .body) bodyMax) _ (le-leb (s .reading .reader .body) bodyMax (u .short))
       (le-leb (s .keep .used + s .reading .reader .body) (length store) (u .room))))))
 
   abbrev AwaitedS : Type 0
-  AwaitedS = Awaited (s .now) (s .say) (s .keep) (s .reading .reader) inbox store
+  AwaitedS = AwaitedFits (s .now) (s .say) (s .keep) (s .reading .reader) inbox store
 
   closed-in : closedOk s ≡ true → phaseLeaving < s .now .phase → Last (s .say .first) (s .say .then)
   unfolding closedOk
@@ -142,7 +142,7 @@ module _ (s : Session) (inbox store : Bytes) where
 -- ---------------------------------------------------------------- a state that is loaded
 
 array-octets : (n : ℕ) (sm : Bytes) (a : ℕ) → Octets sm → Octets (arrayAt n sm a)
-array-octets n sm a o = octets-put (replicate n 0) (at 0) (partOf sm a n) (octets-zeros n) (octets-part sm a n o)
+array-octets n sm a o = octets-put (replicate n 0) (cursorAt 0) (partOf sm a n) (octets-zeros n) (octets-part sm a n o)
 
 five-in : (sm : Bytes) (a : ℕ) → Octets sm → byteAt sm a ≤ blockLimit → length (fiveAt sm a .items) ≡ blockLimit → FiveOk (fiveAt sm a)
 five-in sm a o h e = record { few = h; size = e; octets = array-octets blockLimit sm (a + 1) o }

@@ -17,7 +17,7 @@ use Rattle.our_line.specs.Lines.{fsText}
 use Rattle.session_memory.specs.State.{held}
 use Rattle.session_memory.specs.Session.{Session}
 use Rattle.phase.specs.Phase.{pieceNone, pieceSidAndPrompt, pieceSid, pieceProtocolError, pieceChecksumError, pieceFF, pieceFQ, pieceBlock}
-use Rattle.waiting.specs.Waiting.{proposalAt, firstText, blockText, sendingText, thenText, waitingOf}
+use Rattle.waiting.specs.Waiting.{tableProposal, firstText, blockText, sendingText, thenText, waitingOf}
 use Rattle.pending.specs.Pending.{waits}
 use Rattle.form_closed.specs.Facts.{FiveOk}
 use Rattle.form_closed.proofs.Laws.{held-length}
@@ -72,7 +72,7 @@ then-some s table ti na bo e h = go (eqb (s .say .then) pieceNone) (eqb (s .say 
     go true b c d p q r t = let z : _≡_ {A = ℕ} 0 1 = cc in absurd (omega arith)
     go false true c d p q r t = omega arith
     go false false true d p q r t = omega arith
-    go false false false true p q r t = some-turn (map (proposalAt table) (held (s .now .ours)))
+    go false false false true p q r t = some-turn (map (tableProposal table) (held (s .now .ours)))
     go false false false false p q r t =
         let n₀ = eqb-false (s .say .then) pieceNone p in
         let n₁ = eqb-false (s .say .then) pieceFF q in

@@ -21,7 +21,7 @@ use Rattle.form_test.specs.Form.{usedBy, pluses, isLast}
 use Rattle.receive_defined.specs.Receiving.{Cs}
 use Rattle.form_closed.specs.Fixed.{Fixed}
 use Rattle.session_memory.specs.declared.Five.{Five}
-use Rattle.grammar.specs.Fields.{bodyLimit}
+use Rattle.grammar.specs.Fields.{bodyMax}
 use Rattle.grammar.specs.Turns.{blockLimit}
 use Rattle.grammar.specs.Answers.{plusSign}
 use Rattle.phase.specs.Phase.{phaseTurn, phaseTransfer, phaseLeaving, pieceNone}
@@ -96,7 +96,7 @@ pub record TallyOk (t : Tally) : Type 0 where
   pub sheet : SheetOk (t .sheet)
 
 -- The messages kept have their places, and the store's use is their bodies'.
-pub record Box (k : Keep) (inbox store : Bytes) : Type 0 where
+pub record InboxFits (k : Keep) (inbox store : Bytes) : Type 0 where
   pub limit : placeCount inbox ≤ placeLimit
   pub placed : k .kept ≤ placeCount inbox
   pub used : usedBy inbox (k .kept) ≡ k .used
@@ -108,7 +108,7 @@ pub record Under (w : Await) (y : Say) (k : Keep) (r : Reader) (inbox store : By
   pub signs : y .signs .count ≡ w .proposals
   pub plus : getD (y .signs .items) (w .current) 0 ≡ plusSign
   pub places : k .kept + pluses (drop (w .current) (held (y .signs))) ≤ placeCount inbox
-  pub short : r .body ≤ bodyLimit
+  pub short : r .body ≤ bodyMax
   pub room : k .used + r .body ≤ length store
 
 -- Nothing waits, or the line that says why we hang up.
@@ -116,13 +116,13 @@ abbrev pub Last : ℕ → ℕ → Type 0
 Last first then = (then ≡ pieceNone) × (isLast first ≡ true)
 
 -- Records are being sent only while the partner's turn, our leaving or nothing is awaited; a session that is closed has only its last line to give.
-pub record Awaited (w : Await) (y : Say) (k : Keep) (r : Reader) (inbox store : Bytes) : Type 0 where
+pub record AwaitedFits (w : Await) (y : Say) (k : Keep) (r : Reader) (inbox store : Bytes) : Type 0 where
   pub quiet : (w .phase ≡ phaseTurn → ⊥) → w .phase ≤ phaseTransfer → k .sending .count ≡ 0
   pub under : w .phase ≡ phaseTransfer → Under w y k r inbox store
   pub closed : phaseLeaving < w .phase → Last (y .first) (y .then)
 
 -- Lent memory of these sizes, in bytes.
-pub record Lent (nt ni ns : ℕ) (t i s : Bytes) : Type 0 where
+pub record LentSized (nt ni ns : ℕ) (t i s : Bytes) : Type 0 where
   pub table : length t ≡ nt
   pub inbox : length i ≡ ni
   pub store : length s ≡ ns
@@ -139,7 +139,7 @@ pub record Good (F : Fixed) (nt ni ns : ℕ) (c : Cs) : Type 0 where
   pub heading : HeadingOk (c .session .reading .heading)
   pub line : LineOk (c .session .line)
   pub tally : TallyOk (c .session .tally)
-  pub box : Box (c .session .keep) (c .inbox) (c .store)
-  pub awaited : Awaited (c .session .now) (c .session .say) (c .session .keep) (c .session .reading .reader) (c .inbox) (c .store)
+  pub box : InboxFits (c .session .keep) (c .inbox) (c .store)
+  pub awaited : AwaitedFits (c .session .now) (c .session .say) (c .session .keep) (c .session .reading .reader) (c .inbox) (c .store)
   pub waiting : waits (c .session .say) ≡ true → c .session .say .pos < length (waitingOf (c .session) (c .table) (F .titles) (F .names) (F .bodies))
-  pub lent : Lent nt ni ns (c .table) (c .inbox) (c .store)
+  pub lent : LentSized nt ni ns (c .table) (c .inbox) (c .store)

@@ -19,13 +19,13 @@ use Rattle.session_memory.specs.declared.Five.{Five}
 use Rattle.session_memory.specs.Session.{Session}
 use Rattle.places.specs.Places.{markAt, signsAt, entryLen, entryBodyLength, sessionLen}
 use Rattle.waiting.specs.Waiting.{waitingOf}
-use Rattle.waiting.specs.Pieces.{joined, piecesOf}
+use Rattle.waiting.specs.Pieces.{piecesJoined, piecesOf}
 use Rattle.waiting.proofs.Pieces.{item-read, pieces-joined}
-use Rattle.give_place.specs.Located.{At, Located}
+use Rattle.give_place.specs.Located.{PlaceOfByte, Located}
 use Rattle.give_place.specs.declared.Place.{Place}
 use Rattle.pending.specs.Pending.{waits}
-use Rattle.form_test.specs.Form.{markOk, sameSizes, countsOk, usedFrom, usedBy, inboxOk, waitingOk, pluses, phaseOk, stateOk, lentSizes, formOf, Next, roundLength, mark, markNumber}
-use Rattle.grammar.specs.Fields.{bodyLimit}
+use Rattle.form_test.specs.Form.{markOk, sameSizes, countsOk, usedFrom, usedBy, inboxOk, waitingOk, pluses, phaseOk, stateOk, lentSizes, formOf, NextToGive, roundLength, mark, markNumber}
+use Rattle.grammar.specs.Fields.{bodyMax}
 use Rattle.grammar.specs.Answers.{plusSign}
 use Rattle.grammar.specs.Turns.{blockLimit}
 
@@ -143,8 +143,8 @@ owed-is {k} {o} {p} kept n r q h = le-leb (kept + p) (n / entryLen) (omega arith
 pub owed-not : {k o p : ℕ} (kept n : ℕ) → k ≡ kept → o ≡ p → n < entryLen * (k + o) → leb (kept + p) (n / entryLen) ≡ false
 owed-not {k} {o} {p} kept n r q h = lt-leb (kept + p) (n / entryLen) (omega arith)
 
-pub kept-is : {k : ℕ} (kept n : ℕ) → k ≡ kept → entryLen * k ≤ n → leb kept (n / entryLen) ≡ true
-kept-is {k} kept n r h = le-leb kept (n / entryLen) (omega arith)
+pub kept-fits : {k : ℕ} (kept n : ℕ) → k ≡ kept → entryLen * k ≤ n → leb kept (n / entryLen) ≡ true
+kept-fits {k} kept n r h = le-leb kept (n / entryLen) (omega arith)
 
 pub kept-not : {k : ℕ} (kept n : ℕ) → k ≡ kept → n < entryLen * k → leb kept (n / entryLen) ≡ false
 kept-not {k} kept n r h = lt-leb kept (n / entryLen) (omega arith)
@@ -177,7 +177,7 @@ both-are {x} {y} {u} {v} p q e = eq-eqb u v (sym p ∙ e ∙ q)
 pub both-not : {x y u v : ℕ} → x ≡ u → y ≡ v → (x ≡ y → ⊥) → eqb u v ≡ false
 both-not {x} {y} {u} {v} p q n = ne-eqb u v (λ e. n (p ∙ e ∙ sym q))
 
-pub body-read : {u v b w : ℕ} (n : ℕ) → u ≡ v → b ≡ w → leb b bodyLimit && leb (u + b) n ≡ leb w bodyLimit && leb (v + w) n
+pub body-read : {u v b w : ℕ} (n : ℕ) → u ≡ v → b ≡ w → leb b bodyMax && leb (u + b) n ≡ leb w bodyMax && leb (v + w) n
 body-read n e f = rw (e, f)
 
 -- the length of a body where it stands in the inbox
@@ -221,17 +221,17 @@ module _ (sm : Bytes) (small : (i : ℕ) → byteAt sm i < byteValues) where
 module _ (s : Session) (table titles names bodies : Bytes) where
   -- nothing waits
   pub quiet-next : waits (s .say) ≡ false → {p : Place} → p .left ≡ false
-      → (true ≡ waitingOk s table titles names bodies) × (true ≡ true → Next s table titles names bodies p)
+      → (true ≡ waitingOk s table titles names bodies) × (true ≡ true → NextToGive s table titles names bodies p)
   unfolding waitingOk
   quiet-next w l = (rw w, λ t. (l ∙ sym w, λ o. absurd (true≢false (sym o ∙ l))))
 
   -- something does: the byte at pos is there, or it isn't
   pub located-next : waits (s .say) ≡ true → {pos : ℕ} {p : Place} → pos ≡ s .say .pos → Located (piecesOf s table titles names bodies) pos p
-      → (p .left ≡ waitingOk s table titles names bodies) × (p .left ≡ true → Next s table titles names bodies p)
+      → (p .left ≡ waitingOk s table titles names bodies) × (p .left ≡ true → NextToGive s table titles names bodies p)
   unfolding waitingOk
   located-next w {pos} {p} q a = (
     rw w (a .0 ∙ ap (λ (l : Bytes). ltb pos (length l)) (pieces-joined s table titles names bodies) ∙ ap (λ (n : ℕ). ltb n (length (waitingOf s table titles names bodies))) q),
-    λ t. (t ∙ sym w, λ o. subst (λ (n : ℕ). At (piecesOf s table titles names bodies) n p) q (a .1 t)),
+    λ t. (t ∙ sym w, λ o. subst (λ (n : ℕ). PlaceOfByte (piecesOf s table titles names bodies) n p) q (a .1 t)),
   )
 
 -- the same without the place
@@ -240,7 +240,7 @@ module _ (s : Session) (table titles names bodies : Bytes) where
   unfolding waitingOk
   quiet-left w = rw w
 
-  pub pos-left : waits (s .say) ≡ true → {pos : ℕ} {l : Bool} → pos ≡ s .say .pos → l ≡ ltb pos (length (joined (piecesOf s table titles names bodies)))
+  pub pos-left : waits (s .say) ≡ true → {pos : ℕ} {l : Bool} → pos ≡ s .say .pos → l ≡ ltb pos (length (piecesJoined (piecesOf s table titles names bodies)))
       → l ≡ waitingOk s table titles names bodies
   unfolding waitingOk
   pos-left w q e = rw w (e ∙ rw (pieces-joined s table titles names bodies, q))

@@ -14,14 +14,14 @@ use Rattle.session_memory.specs.declared.Sizes.{Sizes}
 use Rattle.entries.specs.Decoded.{placeCount}
 use Rattle.waiting.specs.Waiting.{waitingOf}
 use Rattle.waiting.specs.Pieces.{piecesOf}
-use Rattle.give_place.specs.Located.{At}
+use Rattle.give_place.specs.Located.{PlaceOfByte}
 use Rattle.give_place.specs.declared.Place.{Place}
 use Rattle.pending.specs.Pending.{waits}
 use Rattle.phase.specs.Phase.{phaseTurn, phaseTransfer, isClosed, pieceNone, pieceProtocolError, pieceChecksumError}
 use Rattle.places.specs.Places.{lineLen, headingLen, partners, entryLen, sessionLen}
 use Rattle.grammar.specs.Turns.{blockLimit}
 use Rattle.grammar.specs.Answers.{plusSign}
-use Rattle.grammar.specs.Fields.{bodyLimit}
+use Rattle.grammar.specs.Fields.{bodyMax}
 use Rattle.grammar.specs.Ascii.{text}
 use Rattle.mail.specs.Mail.{placeLimit}
 
@@ -79,7 +79,7 @@ transferOk s inbox store =
     ltb (s .now .current) (s .now .proposals) && (eqb (s .say .signs .count) (s .now .proposals)
     && (eqb (getD (s .say .signs .items) (s .now .current) 0) plusSign
     && (leb (s .keep .kept + pluses (drop (s .now .current) (held (s .say .signs)))) (placeCount inbox)
-    && (leb (s .reading .reader .body) bodyLimit && leb (s .keep .used + s .reading .reader .body) (length store)))))
+    && (leb (s .reading .reader .body) bodyMax && leb (s .keep .used + s .reading .reader .body) (length store)))))
 
 -- A line that says why we hang up (02, Q-1), or nothing
 abbrev pub isLast : ℕ → Bool
@@ -112,5 +112,5 @@ formOf sm table titles names bodies known inbox store =
     && stateOk (loadOf sm) table titles names bodies inbox store))
 
 -- What give needs of a memory that passes: whether something waits, and where the next byte to give is.
-abbrev pub Next : Session → Bytes → Bytes → Bytes → Bytes → Place → Type 0
-Next s table titles names bodies p = (p .left ≡ waits (s .say)) × (p .left ≡ true → At (piecesOf s table titles names bodies) (s .say .pos) p)
+abbrev pub NextToGive : Session → Bytes → Bytes → Bytes → Bytes → Place → Type 0
+NextToGive s table titles names bodies p = (p .left ≡ waits (s .say)) × (p .left ≡ true → PlaceOfByte (piecesOf s table titles names bodies) (s .say .pos) p)

@@ -13,9 +13,9 @@ ghost use Rattle.layout.specs.Layout.{entryAt, bodyLength};
 ghost use Rattle.places.specs.Places.{entryLen, sessionLen};
 ghost use Rattle.session_memory.specs.State.{held, loadOf, loadSizes};
 ghost use Rattle.pending.specs.Pending.{waits};
-ghost use Rattle.form_test.specs.Form.{markOk, sameSizes, countsOk, usedFrom, usedBy, inboxOk, waitingOk, pluses, transferOk, isLast, closedOk, phaseOk, lentSizes, formOf, Next, roundLength};
+ghost use Rattle.form_test.specs.Form.{markOk, sameSizes, countsOk, usedFrom, usedBy, inboxOk, waitingOk, pluses, transferOk, isLast, closedOk, phaseOk, lentSizes, formOf, NextToGive, roundLength};
 ghost use Rattle.grammar.specs.Bytes.{byteValues};
-ghost use Rattle.grammar.specs.Fields.{bodyLimit};
+ghost use Rattle.grammar.specs.Fields.{bodyMax};
 ghost use Rattle.grammar.specs.Answers.{plusSign};
 
 // The mark FM01 as a number, the first letter the lowest byte.
@@ -30,10 +30,10 @@ const ENTRY: usize = places::ENTRY as usize;
 const BODY_LENGTH: usize = places::ENTRY_BODY_LEN as usize;
 
 // "up to 64 messages"
-const MESSAGES: usize = entries::MESSAGES_MAX as usize;
+const MESSAGES_MAX: usize = entries::MESSAGES_MAX as usize;
 
 // So many messages' lengths are added a turn of the loop, which takes a fifth fewer instructions than one by one.
-const ROUND: u8 = 8;
+const ROUND_MESSAGES: u8 = 8;
 
 // The longest line and the longest body.
 const LINE_MAX: u16 = places::LINE_ROOM as u16;
@@ -78,7 +78,7 @@ fn counts_ok(sm: &[u8]) -> bool
 // How many store bytes message i of the inbox uses.
 fn body_length(inbox: &[u8], i: u8) -> usize
     requires { ⌜ entryLen * (i + 1) ≤ length (now inbox) ⌝ }
-    ensures { λ r. ⌜ (r ≡ bodyLength (entryAt entryLen (now (inbox .entry)) i)) × (r ≤ bodyLimit) ⌝ }
+    ensures { λ r. ⌜ (r ≡ bodyLength (entryAt entryLen (now (inbox .entry)) i)) × (r ≤ bodyMax) ⌝ }
 {
     two(inbox, ENTRY * wide(i) + BODY_LENGTH) as usize
 }
@@ -86,7 +86,7 @@ fn body_length(inbox: &[u8], i: u8) -> usize
 // How many a round of messages uses, from message i on.
 fn round_uses(inbox: &[u8], i: u8) -> usize
     requires { ⌜ (i + (roundLength - 1) < byteValues) × (entryLen * (i + roundLength) ≤ length (now inbox)) ⌝ }
-    ensures { λ r. ⌜ (r ≡ usedFrom (now (inbox .entry)) i roundLength) × (r ≤ bodyLimit * roundLength) ⌝ }
+    ensures { λ r. ⌜ (r ≡ usedFrom (now (inbox .entry)) i roundLength) × (r ≤ bodyMax * roundLength) ⌝ }
 {
     let a = body_length(inbox, i) + body_length(inbox, i + 1);
     let b = body_length(inbox, i + 2) + body_length(inbox, i + 3);
@@ -97,7 +97,7 @@ fn round_uses(inbox: &[u8], i: u8) -> usize
 
 // How many n messages use, from message i on, added to what those before them use.
 fn added_uses(before: usize, inbox: &[u8], i: u8, n: u8) -> usize
-    requires { ⌜ (before ≤ bodyLimit * i) × (i + n < byteValues) × (entryLen * (i + n) ≤ length (now inbox)) ⌝ }
+    requires { ⌜ (before ≤ bodyMax * i) × (i + n < byteValues) × (entryLen * (i + n) ≤ length (now inbox)) ⌝ }
     ensures { λ r. ⌜ r ≡ before + usedFrom (now (inbox .entry)) i n ⌝ }
 {
     let mut total = before;
@@ -114,14 +114,14 @@ fn used_by(inbox: &[u8], n: u8) -> usize
     requires { ⌜ entryLen * n ≤ length (now inbox) ⌝ }
     ensures { λ r. ⌜ r ≡ usedBy (now (inbox .entry)) n ⌝ }
 {
-    let rounds = n / ROUND;
+    let rounds = n / ROUND_MESSAGES;
     let mut total = 0usize;
     let mut k = 0u8;
     while k < rounds {
-        total += round_uses(inbox, ROUND * k);
+        total += round_uses(inbox, ROUND_MESSAGES * k);
         k += 1;
     }
-    added_uses(total, inbox, n - n % ROUND, n % ROUND)
+    added_uses(total, inbox, n - n % ROUND_MESSAGES, n % ROUND_MESSAGES)
 }
 
 // The inbox has at most 64 places, and the messages kept have theirs there and in the store.
@@ -129,7 +129,7 @@ fn inbox_ok(sm: &[u8], inbox: &[u8], store: &[u8]) -> bool
     requires { ⌜ length (now sm) ≡ sessionLen ⌝ }
     ensures { λ r. ⌜ r ≡ inboxOk (loadOf (now (sm .entry))) (now (inbox .entry)) (now (store .entry)) ⌝ }
 {
-    if MESSAGES < inbox.len() / ENTRY {
+    if MESSAGES_MAX < inbox.len() / ENTRY {
         return false;
     }
     let kept = sm[places::KEPT];
@@ -173,7 +173,7 @@ fn pluses_from(sm: &[u8], from: u8) -> u8
 
 // The bytes received so far of the body under way are few enough, and lie in the store after those kept.
 fn body_ok(used: usize, body: u32, store: usize) -> bool
-    ensures { λ r. ⌜ r ≡ leb body bodyLimit && leb (used + body) store ⌝ }
+    ensures { λ r. ⌜ r ≡ leb body bodyMax && leb (used + body) store ⌝ }
 {
     if BODY_MAX < body {
         return false;
@@ -371,7 +371,7 @@ fn waiting_ok<'a>(
     bodies: &[u8],
 ) -> Tested
     requires { ⌜ length (now sm) ≡ sessionLen ⌝ }
-    ensures { λ r. ⌜ (r .ok ≡ waitingOk (loadOf (now (sm .entry))) (now (table .entry)) (now (titles .entry)) (now (names .entry)) (now (bodies .entry))) × (r .ok ≡ true → Next (loadOf (now (sm .entry))) (now (table .entry)) (now (titles .entry)) (now (names .entry)) (now (bodies .entry)) (r .place)) ⌝ }
+    ensures { λ r. ⌜ (r .ok ≡ waitingOk (loadOf (now (sm .entry))) (now (table .entry)) (now (titles .entry)) (now (names .entry)) (now (bodies .entry))) × (r .ok ≡ true → NextToGive (loadOf (now (sm .entry))) (now (table .entry)) (now (titles .entry)) (now (names .entry)) (now (bodies .entry)) (r .place)) ⌝ }
 {
     if !is_waiting(sm) {
         return Tested {
@@ -408,7 +408,7 @@ pub fn test<'a>(
     inbox: &[u8],
     store: &[u8],
 ) -> Tested
-    ensures { λ r. ⌜ (r .ok ≡ formOf (now (sm .entry)) (now (table .entry)) (now (titles .entry)) (now (names .entry)) (now (bodies .entry)) (now (known .entry)) (now (inbox .entry)) (now (store .entry))) × (r .ok ≡ true → Next (loadOf (now (sm .entry))) (now (table .entry)) (now (titles .entry)) (now (names .entry)) (now (bodies .entry)) (r .place)) ⌝ }
+    ensures { λ r. ⌜ (r .ok ≡ formOf (now (sm .entry)) (now (table .entry)) (now (titles .entry)) (now (names .entry)) (now (bodies .entry)) (now (known .entry)) (now (inbox .entry)) (now (store .entry))) × (r .ok ≡ true → NextToGive (loadOf (now (sm .entry))) (now (table .entry)) (now (titles .entry)) (now (names .entry)) (now (bodies .entry)) (r .place)) ⌝ }
 {
     if !lent_ok(sm, table, titles, names, bodies, known, inbox, store) {
         return Tested {

@@ -19,10 +19,10 @@ use Rattle.pages.specs.Pages.{pagesOf, handed, surveyOf}
 use Rattle.pages.specs.Stamps.{toSeconds, toDate}
 use Rattle.page_line.specs.declared.Page.{Page}
 use Rattle.white_pages.specs.Meaning as white
-use Rattle.white_pages.specs.declared.Line.{Line}
+use Rattle.white_pages.specs.declared.PageLine.{PageLine}
 use Rattle.white_pages.specs.declared.NextPage.{NextPage}
 use Rattle.white_pages.specs.declared.Surveyed.{Surveyed}
-use Rattle.page_time.specs.Meaning.{secondsIs, dateSaid}
+use Rattle.page_time.specs.Meaning.{secondsIs, datedSaid}
 use Rattle.page_time.specs.declared.Seconds.{Seconds}
 use Rattle.page_time.specs.declared.Dated.{Dated}
 use Rattle.page_time.proofs.Laws.{seconds-fit}
@@ -42,7 +42,7 @@ survey-told mail s f e k = ap with k ∙ ap toldSurvey e
 
 -- ---------------------------------------------------------------- a line
 
-pub line-told : (t : Line) (p : Page) (r : MailPage) → t .page ≡ p → r ≡ toldBy t p → r ≡ toldLine t
+pub line-told : (t : PageLine) (p : Page) (r : MailPage) → t .page ≡ p → r ≡ toldBy t p → r ≡ toldLine t
 line-told t p r e f = f ∙ sym (ap (toldBy t) e)
 
 module _ (mail : Bytes) (s : MailPages) (at : ℕ) where
@@ -56,7 +56,7 @@ module _ (mail : Bytes) (s : MailPages) (at : ℕ) where
     pub no-more : (r : MailPage) → x ≡ NextPage.End → r ≡ bareOf 0 0 0 0 0 0 → NextIs mail s at r
     no-more r q f = subst (NextIs mail s at) (sym f) (sym (ap (white.pagesBy mail) q) ∙ e .0 ∙ sym read-so, refl, tt)
 
-    pub a-line : (t : Line) (r : MailPage) → x ≡ NextPage.Is t → r ≡ toldLine t → NextIs mail s at r
+    pub a-line : (t : PageLine) (r : MailPage) → x ≡ NextPage.Is t → r ≡ toldLine t → NextIs mail s at r
     a-line t r q f =
         subst (NextIs mail s at) (sym f)
         (all (t .page) refl (subst (white.NextIs mail at) q e))
@@ -64,7 +64,7 @@ module _ (mail : Bytes) (s : MailPages) (at : ℕ) where
         all : (p : Page) → t .page ≡ p → white.NextIs mail at (NextPage.Is t) → NextIs mail s at (toldBy t (t .page))
         all p k w = subst (λ (g : Page). NextIs mail s at (toldBy t g)) (sym k) (one p (subst (λ (g : Page). white.NextIs mail at (NextPage.Is (with g))) k w))
           where
-            with : Page → Line
+            with : Page → PageLine
             with g = record { start = t .start; end = t .end; next = t .next; page = g }
 
             one : (p : Page) → white.NextIs mail at (NextPage.Is (with p)) → NextIs mail s at (toldBy t p)
@@ -84,15 +84,15 @@ module _ (w : Bytes) (s : Seconds) (e : secondsIs s ≡ toSeconds w) where
       let f = sym (ap secondsIs q) ∙ e in
       ap (λ (z : ℤ). toldSeconds (some z)) (toZ-ofZ (seconds-fit w t f)) ∙ ap toldSeconds f
 
-module _ (t : ℤ) (h : SFits w64 t) (d : Dated) (k : dateSaid d ≡ toDate (toZ w64 (ofZ w64 t))) where
-  e : dateSaid d ≡ toDate t
+module _ (t : ℤ) (h : SFits w64 t) (d : Dated) (k : datedSaid d ≡ toDate (toZ w64 (ofZ w64 t))) where
+  e : datedSaid d ≡ toDate t
   e = k ∙ ap toDate (toZ-ofZ h)
 
   pub no-date : d ≡ Dated.OutOfRange → toldDate none ≡ toldDate (toDate t)
-  no-date q = ap toldDate (sym (ap dateSaid q) ∙ e)
+  no-date q = ap toldDate (sym (ap datedSaid q) ∙ e)
 
   pub the-date : (b : Date) (x : List ℕ) → d ≡ Dated.On b → x ≡ dateText (dateIs b) → record { year = b .year; month = b .month; day = b .day; text = x; answer = 0 } ≡ toldDate (toDate t)
-  the-date b x q f = ap told f ∙ ap toldDate (sym (ap dateSaid q) ∙ e)
+  the-date b x q f = ap told f ∙ ap toldDate (sym (ap datedSaid q) ∙ e)
     where
       told : List ℕ → PageDate
       told y = record { year = b .year; month = b .month; day = b .day; text = y; answer = 0 }

@@ -9,7 +9,7 @@ use lib.Dec.{eqb}
 use lib.ListN.{length, drop}
 use borrow.Author.Tests.{eqb-true}
 use Rattle.grammar.specs.Bytes.{Bytes}
-use Rattle.pages.specs.Pages.{Line, pagesOf, anyNewer, mailOf, surveyOf, handed}
+use Rattle.pages.specs.Pages.{ReadLine, pagesOf, anyNewer, mailOf, surveyOf, handed}
 use Rattle.fringemole_pages.specs.Numbers.{toldSurvey, isUnread, linesSaid, endKind, NextIs}
 use Rattle.fringemole_pages.specs.declared.MailPage.{MailPage}
 
@@ -35,7 +35,7 @@ module _ (mail : Bytes) (at : ℕ) (r : MailPage) (k : NextIs mail (toldSurvey (
       go true f q = eqb-true (r .kind) endKind f
       go false f q = absurd (some-line (rw f at q))
         where
-          some-line : {l : Line} {ls : List Line} → l ∷ ls ≡ [] → ⊥
+          some-line : {l : ReadLine} {ls : List ReadLine} → l ∷ ls ≡ [] → ⊥
           some-line z = let y = ap length z in omega (arith, y)
 
   pub read-all : anyNewer (pagesOf mail) ≡ false → linesSaid mail r ≡ pagesOf (drop at mail)

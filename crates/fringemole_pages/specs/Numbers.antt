@@ -8,16 +8,16 @@ use lib.Dec.{eqb}
 use lib.ListN.{length, drop}
 use lib.IntN.{ℤ, pos}
 use Rattle.grammar.specs.Bytes.{Bytes}
-use Rattle.span.specs.Places.{between}
+use Rattle.span.specs.Places.{bytesBetween}
 use Rattle.dates.specs.Dates as dates
 use Rattle.dates.specs.Digits.{dateText}
 use Rattle.pages.specs.Pages as pages
-use Rattle.pages.specs.Pages.{pagesOf, handed, dataPlace}
+use Rattle.pages.specs.Pages.{pagesOf, handed, dataAfterFlag}
 use Rattle.pages.specs.Stamps.{badDate, outOfRange}
 use Rattle.page_member.specs.Meaning.{memberIn, FieldsLie}
 use Rattle.page_member.specs.declared.Member.{Member}
 use Rattle.page_line.specs.declared.Page.{Page}
-use Rattle.white_pages.specs.declared.Line.{Line}
+use Rattle.white_pages.specs.declared.PageLine.{PageLine}
 use Rattle.fringemole_pages.specs.declared.MailPages.{MailPages}
 use Rattle.fringemole_pages.specs.declared.MailPage.{MailPage}
 use Rattle.fringemole_pages.specs.declared.PageSeconds.{PageSeconds}
@@ -77,8 +77,8 @@ bareOf next start end kind version why =
       why = why;
     }
 
-abbrev pub memberOf : Line → Member → MailPage
-memberOf line m =
+abbrev pub memberPage : PageLine → Member → MailPage
+memberPage line m =
     record {
       next = line .next;
       start = line .start;
@@ -104,13 +104,13 @@ memberOf line m =
       why = 0;
     }
 
-abbrev pub toldBy : Line → Page → MailPage
+abbrev pub toldBy : PageLine → Page → MailPage
 toldBy line (Page.Version n) = bareOf (line .next) (line .start) (line .end) versionKind n 0
-toldBy line (Page.Member m) = memberOf line m
+toldBy line (Page.Member m) = memberPage line m
 toldBy line Page.Skipped = bareOf (line .next) (line .start) (line .end) skippedKind 0 0
 toldBy line (Page.Dropped n) = bareOf (line .next) (line .start) (line .end) droppedKind 0 n
 
-abbrev pub toldLine : Line → MailPage
+abbrev pub toldLine : PageLine → MailPage
 toldLine line = toldBy line (line .page)
 
 -- What the numbers say of the line: its bytes, and what it is.
@@ -129,7 +129,7 @@ memberAt r =
     }
 
 abbrev pub bytesAt : Bytes → MailPage → Bytes
-bytesAt mail r = between mail (r .start) (r .end)
+bytesAt mail r = bytesBetween mail (r .start) (r .end)
 
 abbrev pub pageSaid : Bytes → MailPage → pages.Page
 pageSaid l r =
@@ -138,12 +138,12 @@ pageSaid l r =
     (cond (eqb (r .kind) skippedKind) pages.skipped (pages.dropped (r .why))))
 
 -- The lines from a place on, by the answer: the one that it shows and those from its next place on, or none.
-abbrev pub linesSaid : Bytes → MailPage → List pages.Line
+abbrev pub linesSaid : Bytes → MailPage → List pages.ReadLine
 linesSaid mail r = cond (eqb (r .kind) endKind) [] (record { bytes = bytesAt mail r; page = pageSaid (bytesAt mail r) r } ∷ pagesOf (drop (r .next) mail))
 
 -- Whatever a kind doesn't have is 0.
-abbrev pub kept : MailPage → MailPage
-kept r =
+abbrev pub onlyItsKind : MailPage → MailPage
+onlyItsKind r =
     record {
       next = r .next;
       start = r .start;
@@ -173,13 +173,13 @@ abbrev pub normal : MailPage → MailPage
 normal r =
     cond (eqb (r .kind) endKind) (bareOf 0 0 0 endKind 0 0)
     (cond (eqb (r .kind) versionKind) (bareOf (r .next) (r .start) (r .end) versionKind (r .version) 0)
-    (cond (eqb (r .kind) memberKind) (kept r)
+    (cond (eqb (r .kind) memberKind) (onlyItsKind r)
     (cond (eqb (r .kind) skippedKind) (bareOf (r .next) (r .start) (r .end) skippedKind 0 0)
     (bareOf (r .next) (r .start) (r .end) droppedKind 0 (r .why)))))
 
 -- A line lies in the mail, a member's fields in the line, in order, and the next place is a later one.
 abbrev pub FieldsIn : Bool → Bytes → MailPage → Type 0
-FieldsIn true mail r = FieldsLie (bytesAt mail r) dataPlace (memberAt r)
+FieldsIn true mail r = FieldsLie (bytesAt mail r) dataAfterFlag (memberAt r)
 FieldsIn false mail r = Unit {0}
 
 abbrev pub LineIn : Bool → Bytes → ℕ → MailPage → Type 0

@@ -4,24 +4,24 @@ use page_line::Page;
 use page_member::Member;
 use page_time::Dated;
 use page_time::Seconds;
-use white_pages::Line;
 use white_pages::NextPage;
+use white_pages::PageLine;
 ghost use mathlib.Core.Path.{_≡_};
 ghost use mathlib.Core.Bool.{cond};
 ghost use Rattle.pages.specs.Pages.{surveyOf};
 ghost use Rattle.pages.specs.Stamps.{toSeconds, toDate};
-ghost use Rattle.fringemole_pages.specs.Numbers.{toldSurvey, bareOf, memberOf, toldLine, NextIs, toldSeconds, toldDate};
+ghost use Rattle.fringemole_pages.specs.Numbers.{toldSurvey, bareOf, memberPage, toldLine, NextIs, toldSeconds, toldDate};
 
 // What a line is.
-const END: u8 = 0;
+const END_KIND: u8 = 0;
 
-const VERSION: u8 = 1;
+const VERSION_KIND: u8 = 1;
 
-const MEMBER: u8 = 2;
+const MEMBER_KIND: u8 = 2;
 
-const SKIPPED: u8 = 3;
+const SKIPPED_KIND: u8 = 3;
 
-const DROPPED: u8 = 4;
+const DROPPED_KIND: u8 = 4;
 
 // This reader's answers.
 const DONE: u8 = 0;
@@ -132,13 +132,13 @@ fn no_line() -> MailPage
         stamp: 0,
         hops: 0,
         version: 0,
-        kind: END,
+        kind: END_KIND,
         why: 0,
     }
 }
 
 // A line without fields.
-fn bare(line: Line, kind: u8, version: u32, why: u8) -> MailPage
+fn bare(line: PageLine, kind: u8, version: u32, why: u8) -> MailPage
     ensures { λ r. ⌜ r ≡ bareOf (line .next) (line .start) (line .end) kind version why ⌝ }
 {
     MailPage {
@@ -168,8 +168,8 @@ fn bare(line: Line, kind: u8, version: u32, why: u8) -> MailPage
 }
 
 // A member's line.
-fn member_line(line: Line, m: Member) -> MailPage
-    ensures { λ r. ⌜ r ≡ memberOf line m ⌝ }
+fn member_line(line: PageLine, m: Member) -> MailPage
+    ensures { λ r. ⌜ r ≡ memberPage line m ⌝ }
 {
     let call = m.call;
     let home = m.home;
@@ -199,21 +199,21 @@ fn member_line(line: Line, m: Member) -> MailPage
         stamp: m.stamp,
         hops: m.hops,
         version: 0,
-        kind: MEMBER,
+        kind: MEMBER_KIND,
         why: 0,
     }
 }
 
 // A line's numbers.
-fn told_line(line: Line) -> MailPage
+fn told_line(line: PageLine) -> MailPage
     ensures { λ r. ⌜ r ≡ toldLine line ⌝ }
 {
     let page = line.page;
     match page {
-        Page::Version(n) => bare(line, VERSION, n, 0),
+        Page::Version(n) => bare(line, VERSION_KIND, n, 0),
         Page::Member(m) => member_line(line, m),
-        Page::Skipped => bare(line, SKIPPED, 0, 0),
-        Page::Dropped(why) => bare(line, DROPPED, 0, why),
+        Page::Skipped => bare(line, SKIPPED_KIND, 0, 0),
+        Page::Dropped(why) => bare(line, DROPPED_KIND, 0, why),
     }
 }
 

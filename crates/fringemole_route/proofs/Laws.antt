@@ -27,13 +27,13 @@ flag-back false = refl
 abbrev withZone : Bytes → Hop → Bool → Header
 withZone body h g = record { date = dateIs (h .header .date); time = timeIs (h .header .time); gmt = g; number = h .header .number; mailbox = part body (h .header .mailbox) }
 
-module _ (body : Bytes) (at : ℕ) (s : NextHeader) (e : routes.NextIs body at s) where
+module _ (body : Bytes) (at : ℕ) (s : NextHeader) (e : routes.NextHeaderIs body at s) where
   pub no-header : s ≡ NextHeader.End → HopIs body at noHop
   no-header q = (sym (ap (routes.headersBy body) q) ∙ e .0, refl)
 
   pub a-header : (h : Hop) (r : RouteHop) → s ≡ NextHeader.Is h → r ≡ toldHop h → HopIs body at r
   a-header h r q f =
-      let n : routes.NextIs body at (NextHeader.Is h) = subst (routes.NextIs body at) q e in
+      let n : routes.NextHeaderIs body at (NextHeader.Is h) = subst (routes.NextHeaderIs body at) q e in
       let same = ap (λ (g : Bool). withZone body h g ∷ routeOf (drop (h .next) body)) (flag-back (h .header .gmt)) in
       subst (HopIs body at) (sym f) (same ∙ n .0, (n .1 .0 .0, n .1 .0 .1, n .1 .1, n .1 .2))
 

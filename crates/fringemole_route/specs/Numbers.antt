@@ -7,7 +7,7 @@ use Prim.Native.Nat.{ℕ, _<_, _≤_}
 use lib.Dec.{eqb}
 use lib.ListN.{length, drop}
 use Rattle.grammar.specs.Bytes.{Bytes}
-use Rattle.span.specs.Places.{between}
+use Rattle.span.specs.Places.{bytesBetween}
 use Rattle.route.specs.Routes.{Header, routeOf, originOf}
 use Rattle.route.specs.Written as written
 use Rattle.routes.specs.declared.Hop.{Hop}
@@ -43,7 +43,7 @@ headerSaid body r =
       time = record { hour = r .hour; minute = r .minute };
       gmt = eqb (r .gmt) 1;
       number = r .number;
-      mailbox = between body (r .start) (r .end);
+      mailbox = bytesBetween body (r .start) (r .end);
     }
 
 -- The headers from a place on, by the answer: the one that it shows and those from its next place on, or none.
@@ -61,7 +61,7 @@ HopIs body at r = (headersSaid body r ≡ routeOf (drop at body)) × HopLies (eq
 -- ---------------------------------------------------------------- the origin
 
 abbrev pub originSaid : Bytes → RouteOrigin → Option Bytes
-originSaid body r = cond (eqb (r .found) 1) (some (between body (r .start) (r .end))) none
+originSaid body r = cond (eqb (r .found) 1) (some (bytesBetween body (r .start) (r .end))) none
 
 abbrev pub OriginLies : Bool → Bytes → RouteOrigin → Type 0
 OriginLies true body r = (r .start ≤ r .end) × (r .end ≤ length body)
@@ -72,8 +72,8 @@ OriginIs body r = (originSaid body r ≡ originOf (routeOf body)) × OriginLies 
 
 -- ---------------------------------------------------------------- the writer
 
-abbrev pub given : ℕ → ℕ → ℕ → ℕ → ℕ → ℕ → Bytes → written.Ours
-given y m d h i n w = record { date = record { year = y; month = m; day = d }; time = record { hour = h; minute = i }; number = n; mailbox = w }
+abbrev pub ourHeaderOf : ℕ → ℕ → ℕ → ℕ → ℕ → ℕ → Bytes → written.OurHeader
+ourHeaderOf y m d h i n w = record { date = record { year = y; month = m; day = d }; time = record { hour = h; minute = i }; number = n; mailbox = w }
 
 abbrev pub addedSaid : RouteAdded → Bytes → written.Added
 addedSaid r b = record { answer = r .answer; count = r .count; buffer = b }

@@ -9,7 +9,7 @@ ghost use mathlib.Core.Path.{_≡_};
 ghost use mathlib.Core.Bool.{cond};
 ghost use Rattle.route.specs.Written.{addRoute};
 ghost use Rattle.route_write.specs.Meaning.{addedNumber, addedCount};
-ghost use Rattle.fringemole_route.specs.Numbers.{toldHop, HopIs, OriginIs, given, addedSaid};
+ghost use Rattle.fringemole_route.specs.Numbers.{toldHop, HopIs, OriginIs, ourHeaderOf, addedSaid};
 
 // A header, if one was found: 1, else 0 and all numbers 0. The mailbox lies in the body from start up to, not including, end; gmt is 1 where the zone is known.
 #[repr(C)]
@@ -157,7 +157,7 @@ pub extern "C" fn fringemole_route_add(
     mailbox: &[u8],
     body: &[u8],
 ) -> RouteAdded
-    ensures { λ r. ⌜ addedSaid r (now (out .exit)) ≡ addRoute (now (out .entry)) (given year month day hour minute number (now (mailbox .entry))) (now (body .entry)) ⌝ }
+    ensures { λ r. ⌜ addedSaid r (now (out .exit)) ≡ addRoute (now (out .entry)) (ourHeaderOf year month day hour minute number (now (mailbox .entry))) (now (body .entry)) ⌝ }
 {
     let date = Date {
         year: year,

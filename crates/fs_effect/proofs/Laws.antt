@@ -25,7 +25,7 @@ use Rattle.five.proofs.Laws.{five-held, five-filled, five-next, five-count}
 use Rattle.line_effect.specs.Judged.{Judged}
 use Rattle.line_effect.specs.Judge.{judged, refusal, toTurn, sends, picked, flagged, transfersAfter, answerTaken, answerLine}
 use Rattle.fs_effect.specs.declared.Answered.{Answered}
-use Rattle.fs_effect.specs.Signs.{Room, withPlace, placed, answeredBy}
+use Rattle.fs_effect.specs.Signs.{RoomForOne, withPlace, placed, answeredBy}
 use Rattle.five.proofs.Laws.{held-cons, held-end}
 
 -- flags, place by place
@@ -97,10 +97,10 @@ module _ (f : Five) (ss : List ℕ) (a : Answered) (i n : ℕ) (e : n ≡ length
       (pick-end (writeSign accept) f ss (a .accepted) i n e (p .0) h, pick-end (writeSign decline) f ss (a .declined) i n e (p .1) h, pick-end (writeSign defer) f ss (a .deferred) i n e (p .2) h)
 
   module _ (h : i < n) (l : i < length ss) (m : n ≤ blockLimit) where
-    room : (c : ℕ) (g : Five) → Picking c f ss g i → Room g
+    room : (c : ℕ) (g : Five) → Picking c f ss g i → RoomForOne g
     room c g o = (o .filled, omega (arith, o .few))
 
-    pub sort-room : Room (a .accepted) × Room (a .declined) × Room (a .deferred)
+    pub sort-room : RoomForOne (a .accepted) × RoomForOne (a .declined) × RoomForOne (a .deferred)
     sort-room = (room (writeSign accept) _ (p .0), room (writeSign decline) _ (p .1), room (writeSign defer) _ (p .2))
 
     pub sort-more : (b : Answered) → b ≡ answeredBy a (getD ss i 0) (getD (f .items) i 0) → Sorted f ss b (i + 1)

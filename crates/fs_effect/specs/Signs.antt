@@ -10,8 +10,8 @@ use Rattle.five.specs.Filled.{Filled}
 use Rattle.fs_effect.specs.declared.Answered.{Answered}
 
 -- There is room for one place more.
-abbrev pub Room : Five → Type 0
-Room f = Filled f × (f .count < blockLimit)
+abbrev pub RoomForOne : Five → Type 0
+RoomForOne f = Filled f × (f .count < blockLimit)
 
 -- One place more.
 abbrev pub withPlace : Five → ℕ → Five

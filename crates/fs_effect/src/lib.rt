@@ -15,7 +15,7 @@ ghost use lib.ListN.{set};
 ghost use Rattle.grammar.specs.Answers.{accept, decline, defer, writeSign};
 ghost use Rattle.numbers.specs.Whole.{Arrays, withDeferred, sessionOf};
 ghost use Rattle.session_memory.specs.State.{held, fiveOf};
-ghost use Rattle.fs_effect.specs.Signs.{Room, answeredBy};
+ghost use Rattle.fs_effect.specs.Signs.{RoomForOne, answeredBy};
 ghost use Rattle.line_effect.specs.Judge.{picked, flagged, transfersAfter, answerTaken, answerLine};
 ghost use Rattle.line_effect.specs.Verdict.{judgedOf};
 ghost use Rattle.phase.specs.Phase.{wasDeferred};
@@ -32,7 +32,7 @@ struct Answered {
 
 // A place more where its sign belongs: `+` accept, `-` decline, `=` defer; no other byte is a sign.
 fn answered_by(a: Answered, sign: u8, place: u8) -> Answered
-    requires { ⌜ Room (a .accepted) × Room (a .declined) × Room (a .deferred) ⌝ }
+    requires { ⌜ RoomForOne (a .accepted) × RoomForOne (a .declined) × RoomForOne (a .deferred) ⌝ }
     ensures { λ r. ⌜ r ≡ answeredBy a sign place ⌝ }
 {
     let accepted = a.accepted;

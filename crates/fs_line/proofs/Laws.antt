@@ -13,14 +13,14 @@ use lib.Seq.{take-at, append-snoc, set-at, drop-cons, drop-drop}
 use borrow.Author.Tests.{eq-eqb, ne-eqb, lt-ltb, le-ltb, lt-leb, le-leb, ltb-false, eqb-true}
 use Rattle.grammar.specs.Bytes.{Bytes, SP, every, isSome}
 use Rattle.grammar.specs.Ascii.{text, char}
-use Rattle.grammar.specs.Fields.{upper, after, digit, readFrom, smallEnd}
+use Rattle.grammar.specs.Fields.{upper, afterCapitals, digit, readFrom, smallEnd}
 use Rattle.grammar.specs.Refusals.{badAnswer, lineNotAllowed}
 use Rattle.grammar.specs.Turns.{blockLimit}
 use Rattle.grammar.specs.Answers.{Sign, accept, decline, defer, signOf, orElse, letterSign, signByte, isOffset, offsetDigits, digitCount, offsetSign, followed, offsetRead, orOffset, signAt, consO, consNext, readSigns, signsRead, readFs, writeSign, fsNumber, level0, level1, plusSign, minusSign, equalSign}
 use Rattle.grammar.proofs.Basics.{to-end}
 use Rattle.grammar.proofs.OurLines.{signs-back}
 use Rattle.byte.proofs.Laws.{any2, none2, all-get, digit-is}
-use Rattle.fs_line.specs.Answers.{answered, answerNumber, answerSigns, signBytes, zeroed, signsBy, fsLength, fsLetters}
+use Rattle.fs_line.specs.Answers.{answersRead, answerNumber, answerSigns, signBytes, zeroed, signsBy, fsLength, fsLetters}
 use Rattle.fs_line.specs.declared.Answers.{Answers}
 use Rattle.grammar.specs.Bids.{toSmall}
 
@@ -29,7 +29,7 @@ true-false e = let z : _≡_ {A = ℕ} 1 0 = ap (λ (c : Bool). cond {A = ℕ} c
 
 -- ---------------------------------------------------------------- FS
 
-pub fs-short : (l : Bytes) → length l < fsLetters → false ≡ isSome (after (text "FS") l)
+pub fs-short : (l : Bytes) → length l < fsLetters → false ≡ isSome (afterCapitals (text "FS") l)
 fs-short [] h = refl
 fs-short (a ∷ []) h = go (eqb (upper a) (char "F"))
   where
@@ -39,7 +39,7 @@ fs-short (a ∷ []) h = go (eqb (upper a) (char "F"))
 fs-short (a ∷ b ∷ l) h = let z : ⊥ = omega arith in absurd z
 
 -- where there are two bytes, they decide
-pub fs-two : (l : Bytes) → fsLetters ≤ length l → isSome (after (text "FS") l) ≡ (eqb (upper (getD l 0 0)) (char "F") && eqb (upper (getD l 1 0)) (char "S"))
+pub fs-two : (l : Bytes) → fsLetters ≤ length l → isSome (afterCapitals (text "FS") l) ≡ (eqb (upper (getD l 0 0)) (char "F") && eqb (upper (getD l 1 0)) (char "S"))
 fs-two [] h = let z : ⊥ = omega arith in absurd z
 fs-two (a ∷ []) h = let z : ⊥ = omega arith in absurd z
 fs-two (a ∷ b ∷ l) h = go (eqb (upper a) (char "F")) (eqb (upper b) (char "S"))
@@ -52,8 +52,8 @@ fs-two (a ∷ b ∷ l) h = go (eqb (upper a) (char "F")) (eqb (upper b) (char "S
 -- ---------------------------------------------------------------- a sign of one byte
 
 -- the byte is a sign
-abbrev pub isSign : ℕ → Bool
-isSign b = isSome (signOf b)
+abbrev pub isSignByte : ℕ → Bool
+isSignByte b = isSome (signOf b)
 
 -- a sign stands for itself
 abbrev SignFrom : ℕ → Option Sign → Type 0
@@ -82,8 +82,8 @@ pub letter-defers : (u : ℕ) → (u ≡ char "E") ⊎ (u ≡ char "L") → some
 letter-defers u (inl e) = ap letterSign (sym e)
 letter-defers u (inr e) = ap letterSign (sym e)
 
-pub letter-other : (u : ℕ) → ((u ≡ char "H") ⊎ (u ≡ char "Y") → ⊥) → ((u ≡ char "N") ⊎ (u ≡ char "R") → ⊥) → ((u ≡ char "E") ⊎ (u ≡ char "L") → ⊥) → none ≡ letterSign u
-letter-other u a b c =
+pub sign-letter-other : (u : ℕ) → ((u ≡ char "H") ⊎ (u ≡ char "Y") → ⊥) → ((u ≡ char "N") ⊎ (u ≡ char "R") → ⊥) → ((u ≡ char "E") ⊎ (u ≡ char "L") → ⊥) → none ≡ letterSign u
+sign-letter-other u a b c =
     rw (
       ne-eqb u (char "Y") (λ e. a (inr e)),
       ne-eqb u (char "H") (λ e. a (inl e)),
@@ -103,10 +103,10 @@ or-second (some s) p e = absurd (true-false e)
 
 -- the sign that a byte is by itself, at the level v
 module _ (v b : ℕ) where
-  pub byte-itself : isSign b ≡ true → signOf b ≡ signByte v b
+  pub byte-itself : isSignByte b ≡ true → signOf b ≡ signByte v b
   byte-itself e = or-first (signOf b) (cond (ltb v level1) none (letterSign (upper b))) e
 
-  module _ (e : isSign b ≡ false) where
+  module _ (e : isSignByte b ≡ false) where
     byte-by : signByte v b ≡ cond (ltb v level1) none (letterSign (upper b))
     byte-by = or-second (signOf b) (cond (ltb v level1) none (letterSign (upper b))) e
 
@@ -259,8 +259,8 @@ module _ (s : Bytes) (k : 1 ≤ length s) (n : ℕ) (d : n ≡ digitCount (take 
   offset-here v o e f h q p g = an-offset v s k o e f h q n digits-there p (g ∙ ap offsetSign part-is)
 
 -- a part of what is left stays within
-pub within : (s : Bytes) (at j : ℕ) → at ≤ length s → j ≤ length (take (length s - at) (drop at s)) → at + j ≤ length s
-within s at j h k =
+pub within-left : (s : Bytes) (at j : ℕ) → at ≤ length s → j ≤ length (take (length s - at) (drop at s)) → at + j ≤ length s
+within-left s at j h k =
     let z : length (take (length s - at) (drop at s)) ≡ length s - at = ap length (to-end s at) ∙ length-drop at s in
     omega (arith, z)
 
@@ -294,16 +294,16 @@ behind-more l b (some g) none e f = refl
 behind-more l b (some g) (some ss) e f = ap (λ (x : Bytes). some x) (ap (λ (x : ℕ). l ++ (x ∷ map writeSign ss)) f ∙ sym (append-snoc l b (map writeSign ss)))
 
 -- i signs are read from the first at bytes; they are held, with zeros after them, and the rest is read from there on
-pub record Read (v n : ℕ) (s signs : Bytes) (at i : ℕ) : Type 0 where
+pub record SignsRead (v n : ℕ) (s signs : Bytes) (at i : ℕ) : Type 0 where
   pub bytes : Bytes
   pub many : length bytes ≡ i
   pub held : signs ≡ bytes ++ replicate (blockLimit - i) 0
   pub said : behind [] (readSigns v n s) ≡ behind bytes (readSigns v (n - i) (drop at s))
 
-pub read-start : (v n : ℕ) (s : Bytes) → Read v n s (replicate blockLimit 0) 0 0
-read-start v n s = let z : n ≡ n - 0 = omega arith in record { bytes = []; many = refl; held = refl; said = ap (λ (k : ℕ). behind [] (readSigns v k s)) z }
+pub signs-read-start : (v n : ℕ) (s : Bytes) → SignsRead v n s (replicate blockLimit 0) 0 0
+signs-read-start v n s = let z : n ≡ n - 0 = omega arith in record { bytes = []; many = refl; held = refl; said = ap (λ (k : ℕ). behind [] (readSigns v k s)) z }
 
-module _ (v n : ℕ) (s signs : Bytes) (at i : ℕ) (p : Read v n s signs at i) where
+module _ (v n : ℕ) (s signs : Bytes) (at i : ℕ) (p : SignsRead v n s signs at i) where
   -- r: what is left; b: the byte of the next sign, if it is one; j: its length
   module _ (h : i < n) (b j : ℕ) (r : Bytes) (q : r ≡ drop at s) (a : signAt v r ≡ followed (signOf b) (drop j r)) where
     e : signAt v (drop at s) ≡ followed (signOf b) (drop j (drop at s))
@@ -314,14 +314,14 @@ module _ (v n : ℕ) (s signs : Bytes) (at i : ℕ) (p : Read v n s signs at i) 
         let z : n - i ≡ suc (n - (i + 1)) = omega arith in
         ap (λ (k : ℕ). readSigns v k (drop at s)) z ∙ ap (λ (x : Option (Sign × Bytes)). consNext x (λ r. readSigns v (n - (i + 1)) r)) e
 
-    pub read-stop : isSign b ≡ false → readSigns v n s ≡ none
+    pub read-stop : isSignByte b ≡ false → readSigns v n s ≡ none
     read-stop f = behind-none (readSigns v n s) (p .said ∙ ap (behind (p .bytes)) next-read ∙ go (signOf b) f)
       where
         go : (o : Option Sign) → isSome o ≡ false → behind (p .bytes) (consNext (followed o (drop j (drop at s))) (λ r. readSigns v (n - (i + 1)) r)) ≡ none
         go none f = refl
         go (some g) f = absurd (true-false f)
 
-    pub read-more : n ≤ blockLimit → isSign b ≡ true → Read v n s (set signs i b) (at + j) (i + 1)
+    pub read-more : n ≤ blockLimit → isSignByte b ≡ true → SignsRead v n s (set signs i b) (at + j) (i + 1)
     read-more m f =
         record {
           bytes = p .bytes ++ (b ∷ []);
@@ -366,7 +366,7 @@ upper-sp b = go (ltb b (char "a")) (ltb b smallEnd) refl
 
 -- FS, a space and the signs, by places
 pub fs-after : (v n : ℕ) (l : Bytes)
-    → readFs v n l ≡ cond (ltb (length l) fsLength) none (cond (isSome (after (text "FS") l)) (cond (eqb (getD l fsLetters 0) SP) (readSigns v n (drop fsLength l)) none) none)
+    → readFs v n l ≡ cond (ltb (length l) fsLength) none (cond (isSome (afterCapitals (text "FS") l)) (cond (eqb (getD l fsLetters 0) SP) (readSigns v n (drop fsLength l)) none) none)
 unfolding readFs
 fs-after v n [] = refl
 fs-after v n (a ∷ []) = go (eqb (upper a) (char "F"))
@@ -390,7 +390,7 @@ fs-after v n (a ∷ b ∷ c ∷ l) = rw (le-ltb (length (a ∷ b ∷ c ∷ l)) f
     go false q r = refl
 
 module _ (v n : ℕ) (l : Bytes) where
-  fs-none : isSome (after (text "FS") l) ≡ false → readFs v n l ≡ none
+  fs-none : isSome (afterCapitals (text "FS") l) ≡ false → readFs v n l ≡ none
   fs-none e = rw (fs-after v n l, e) (go (ltb (length l) fsLength))
     where
       go : (t : Bool) → _≡_ {A = Option (List Sign)} (cond t none none) none
@@ -398,8 +398,8 @@ module _ (v n : ℕ) (l : Bytes) where
       go false = refl
 
   -- a line that does not begin with FS
-  pub fs-not : isSome (after (text "FS") l) ≡ false → (answerNumber v n l ≡ lineNotAllowed) × (answerSigns v n l ≡ zeroed [])
-  unfolding answerNumber answerSigns answered
+  pub fs-not : isSome (afterCapitals (text "FS") l) ≡ false → (answerNumber v n l ≡ lineNotAllowed) × (answerSigns v n l ≡ zeroed [])
+  unfolding answerNumber answerSigns answersRead
   fs-not e = rw (fs-none e, e) (go (ltb blockLimit n))
     where
       go : (t : Bool) → (cond t lineNotAllowed lineNotAllowed ≡ lineNotAllowed) × (zeroed (signBytes (cond t none none)) ≡ zeroed [])
@@ -407,32 +407,32 @@ module _ (v n : ℕ) (l : Bytes) where
       go false = (refl, refl)
 
   -- one that does, and is wrong
-  pub fs-wrong : isSome (after (text "FS") l) ≡ true → answered v n l ≡ none → (answerNumber v n l ≡ badAnswer) × (answerSigns v n l ≡ zeroed [])
-  unfolding answerNumber answerSigns answered
+  pub fs-wrong : isSome (afterCapitals (text "FS") l) ≡ true → answersRead v n l ≡ none → (answerNumber v n l ≡ badAnswer) × (answerSigns v n l ≡ zeroed [])
+  unfolding answerNumber answerSigns answersRead
   fs-wrong e f = rw (f, e) (go (ltb blockLimit n) (readFs v n l) f, refl)
     where
       go : (t : Bool) (o : Option (List Sign)) → cond t none o ≡ none → cond t badAnswer (cond (isSome o) 0 badAnswer) ≡ badAnswer
       go true o f = refl
       go false o f = rw f
 
-  pub over-five : blockLimit < n → answered v n l ≡ none
-  unfolding answered
+  pub over-five : blockLimit < n → answersRead v n l ≡ none
+  unfolding answersRead
   over-five h = rw (lt-ltb blockLimit n h)
 
   module _ (k : n ≤ blockLimit) where
-    pub too-short : length l < fsLength → answered v n l ≡ none
-    unfolding answered
+    pub too-short : length l < fsLength → answersRead v n l ≡ none
+    unfolding answersRead
     too-short h = rw (le-ltb blockLimit n k, fs-after v n l, lt-ltb _ _ h)
 
-    module _ (h : fsLength ≤ length l) (e : isSome (after (text "FS") l) ≡ true) where
-      pub no-space : (getD l fsLetters 0 ≡ SP → ⊥) → answered v n l ≡ none
-      unfolding answered
+    module _ (h : fsLength ≤ length l) (e : isSome (afterCapitals (text "FS") l) ≡ true) where
+      pub no-space : (getD l fsLetters 0 ≡ SP → ⊥) → answersRead v n l ≡ none
+      unfolding answersRead
       no-space q = rw (le-ltb blockLimit n k, fs-after v n l, le-ltb _ _ h, e, ne-eqb _ _ q)
 
       -- FS and a space: the signs decide
       pub fs-signs : getD l fsLetters 0 ≡ SP
           → (answerNumber v n l ≡ cond (isSome (readSigns v n (drop fsLength l))) 0 badAnswer) × (answerSigns v n l ≡ zeroed (signBytes (readSigns v n (drop fsLength l))))
-      unfolding answerNumber answerSigns answered
+      unfolding answerNumber answerSigns answersRead
       fs-signs q =
           let r : readFs v n l ≡ readSigns v n (drop fsLength l) = rw (fs-after v n l, le-ltb _ _ h, e, eq-eqb _ _ q) in
           rw (le-ltb blockLimit n k, r, e) (refl, refl)
@@ -450,33 +450,33 @@ refusal true e = omega arith
 refusal false e = omega arith
 
 -- as many signs as proposals
-abbrev pub Counted : ℕ → Option (List Sign) → Type 0
-Counted n none = Unit {0}
-Counted n (some ss) = length ss ≡ n
+abbrev pub OneSignEach : ℕ → Option (List Sign) → Type 0
+OneSignEach n none = Unit {0}
+OneSignEach n (some ss) = length ss ≡ n
 
-signs-counted : (v n : ℕ) (s : Bytes) → Counted n (readSigns v n s)
+signs-counted : (v n : ℕ) (s : Bytes) → OneSignEach n (readSigns v n s)
 signs-counted v zero [] = refl
 signs-counted v zero (x ∷ s) = tt
 signs-counted v (suc n) s = next (λ r. signs-counted v n r) (signAt v s)
   where
-    go : (g : Sign) (t : Option (List Sign)) → Counted n t → Counted (suc n) (consO (some g) t)
+    go : (g : Sign) (t : Option (List Sign)) → OneSignEach n t → OneSignEach (suc n) (consO (some g) t)
     go g none h = tt
     go g (some gs) h = ap (λ (k : ℕ). suc k) h
 
-    next : ((r : Bytes) → Counted n (readSigns v n r)) → (o : Option (Sign × Bytes)) → Counted (suc n) (consNext o (λ r. readSigns v n r))
+    next : ((r : Bytes) → OneSignEach n (readSigns v n r)) → (o : Option (Sign × Bytes)) → OneSignEach (suc n) (consNext o (λ r. readSigns v n r))
     next f none = tt
     next f (some p) = go (p .0) (readSigns v n (p .1)) (f (p .1))
 
-fs-counted : (v n : ℕ) (l : Bytes) → Counted n (readFs v n l)
+fs-counted : (v n : ℕ) (l : Bytes) → OneSignEach n (readFs v n l)
 unfolding readFs
-fs-counted v n l = go (after (text "FS ") l)
+fs-counted v n l = go (afterCapitals (text "FS ") l)
   where
-    go : (o : Option Bytes) → Counted n (signsRead v n o)
+    go : (o : Option Bytes) → OneSignEach n (signsRead v n o)
     go none = tt
     go (some s) = signs-counted v n s
 
 pub fs-length : (v n : ℕ) (l : Bytes) (ss : List Sign) → readFs v n l ≡ some ss → length ss ≡ n
-fs-length v n l ss e = subst (Counted n) e (fs-counted v n l)
+fs-length v n l ss e = subst (OneSignEach n) e (fs-counted v n l)
 
 -- a sign that was written is read
 sign-back : (s : Sign) → signOf (writeSign s) ≡ some s
@@ -486,22 +486,22 @@ sign-back defer = refl
 
 -- the signs of an answer are those that the line gives
 pub signs-by : (v n : ℕ) (l : Bytes) (a : Answers) → n ≤ blockLimit → a .number ≡ answerNumber v n l → a .signs ≡ answerSigns v n l → signsBy n a ≡ readFs v n l
-unfolding answerSigns answered
+unfolding answerSigns answersRead
 signs-by v n l a k e f = go (readFs v n l) (fs-counted v n l) (e ∙ answer-number v n l k) (f ∙ h)
   where
     h : answerSigns v n l ≡ zeroed (signBytes (readFs v n l))
     h = rw (le-ltb blockLimit n k)
 
-    go : (o : Option (List Sign)) → Counted n o → a .number ≡ cond (isSome o) 0 (cond (isSome (after (text "FS") l)) badAnswer lineNotAllowed)
+    go : (o : Option (List Sign)) → OneSignEach n o → a .number ≡ cond (isSome o) 0 (cond (isSome (afterCapitals (text "FS") l)) badAnswer lineNotAllowed)
         → a .signs ≡ zeroed (signBytes o) → signsBy n a ≡ o
-    go none m e f = rw (ne-eqb (a .number) 0 (λ q. refusal (isSome (after (text "FS") l)) (sym e ∙ q)))
+    go none m e f = rw (ne-eqb (a .number) 0 (λ q. refusal (isSome (afterCapitals (text "FS") l)) (sym e ∙ q)))
     go (some ss) m e f =
         rw (eq-eqb (a .number) 0 e, f, take-at (map writeSign ss) (replicate (blockLimit - length (map writeSign ss)) 0) n (length-map ss writeSign ∙ m), ← m)
         (signs-back level0 ss)
 
 -- a sign of the answer, by its place
 pub sign-at : (v n : ℕ) (l : Bytes) (ss : List Sign) (i : ℕ) → n ≤ blockLimit → readFs v n l ≡ some ss → i < n → signOf (getD (answerSigns v n l) i 0) ≡ some (getD ss i accept)
-unfolding answerSigns answered
+unfolding answerSigns answersRead
 sign-at v n l ss i k e h =
     let m = fs-length v n l ss e in
     let q : i < length (map writeSign ss) = rw (length-map ss writeSign) (omega arith) in

@@ -9,7 +9,7 @@ use lib.ListN.{length, replicate, take}
 use Rattle.grammar.specs.Bytes.{Bytes, isSome}
 use Rattle.grammar.specs.Ascii.{text}
 use Rattle.grammar.specs.Refusals.{badAnswer, lineNotAllowed}
-use Rattle.grammar.specs.Fields.{after, readFrom}
+use Rattle.grammar.specs.Fields.{afterCapitals, readFrom}
 use Rattle.grammar.specs.Turns.{blockLimit}
 use Rattle.grammar.specs.Answers.{Sign, accept, decline, defer, signOf, writeSign, digitCount, signAt, readSigns, readFs, fsNumber, Level, level0, level1, plusSign, minusSign, equalSign}
 use Rattle.fs_line.specs.declared.Answers.{Answers}
@@ -23,11 +23,11 @@ abbrev pub fsLength : ℕ
 fsLength = fsLetters + 1
 
 -- "`+` accept, `-` decline, `=` defer": the grammar's name for each case; any other byte is no sign
-abbrev pub signIs : code.Sign → Option Sign
-signIs code.Sign.Accept = some accept
-signIs code.Sign.Decline = some decline
-signIs code.Sign.Defer = some defer
-signIs code.Sign.Other = none
+abbrev pub signMeant : code.Sign → Option Sign
+signMeant code.Sign.Accept = some accept
+signMeant code.Sign.Decline = some decline
+signMeant code.Sign.Defer = some defer
+signMeant code.Sign.Other = none
 
 -- 01's number for each case: a line with any other byte in a sign's place is an "FS line wrong in form or count"
 abbrev pub signNumber : code.Sign → ℕ
@@ -41,12 +41,12 @@ abbrev pub byteNumber : ℕ → ℕ
 byteNumber b = cond (isSome (signOf b)) 0 badAnswer
 
 -- "FS, one space, one sign a proposal": the signs to n proposals, of which a block has five at most, at the level v
-unfoldable pub answered : Level → ℕ → Bytes → Option (List Sign)
-answered v n ln = cond (ltb blockLimit n) none (readFs v n ln)
+unfoldable pub answersRead : Level → ℕ → Bytes → Option (List Sign)
+answersRead v n ln = cond (ltb blockLimit n) none (readFs v n ln)
 
 -- "Where FS is awaited, a wrong line that begins with FS gets 7 and any other 5"; to more than five proposals every line is wrong
 unfoldable pub answerNumber : Level → ℕ → Bytes → ℕ
-answerNumber v n ln = cond (ltb blockLimit n) (cond (isSome (after (text "FS") ln)) badAnswer lineNotAllowed) (fsNumber v n ln)
+answerNumber v n ln = cond (ltb blockLimit n) (cond (isSome (afterCapitals (text "FS") ln)) badAnswer lineNotAllowed) (fsNumber v n ln)
 
 -- The signs as `+`, `-` and `=`, whatever stood on the line; none of a line that is refused.
 abbrev pub signBytes : Option (List Sign) → Bytes
@@ -59,10 +59,10 @@ zeroed bs = bs ++ replicate (blockLimit - length bs) 0
 
 -- "no answer of that line is recorded" where it is refused
 unfoldable pub answerSigns : Level → ℕ → Bytes → Bytes
-answerSigns v n ln = zeroed (signBytes (answered v n ln))
+answerSigns v n ln = zeroed (signBytes (answersRead v n ln))
 
 three : answerSigns level0 3 (text "FS -+=") ≡ minusSign ∷ plusSign ∷ equalSign ∷ 0 ∷ 0 ∷ []
-unfolding answerSigns answered readFs signAt
+unfolding answerSigns answersRead readFs signAt
 three = refl
 
 six : answerNumber level1 6 (text "fs ++++++") ≡ badAnswer
@@ -71,7 +71,7 @@ six = refl
 
 -- 002's own example of version 1
 five : answerSigns level1 5 (text "FS YLA3350RH") ≡ plusSign ∷ equalSign ∷ equalSign ∷ minusSign ∷ plusSign ∷ []
-unfolding answerSigns answered readFs signAt digitCount readFrom
+unfolding answerSigns answersRead readFs signAt digitCount readFrom
 five = refl
 
 -- The signs to n proposals that an answer of the code holds, which writes `+`, `-` and `=` at every level.

@@ -10,10 +10,10 @@ ghost use lib.ListN.{length, drop};
 ghost use Rattle.grammar.specs.Bytes.{every, isSome};
 ghost use Rattle.grammar.specs.Ascii.{text};
 ghost use Rattle.grammar.specs.Refusals.{badAnswer};
-ghost use Rattle.grammar.specs.Fields.{upper, after, digit, readFrom};
+ghost use Rattle.grammar.specs.Fields.{upper, afterCapitals, digit, readFrom};
 ghost use Rattle.grammar.specs.Turns.{blockLimit};
 ghost use Rattle.grammar.specs.Answers.{signOf, letterSign, signByte, isOffset, digitCount, offsetSign, signAt, followed, readSigns};
-ghost use Rattle.fs_line.specs.Answers.{signIs, signNumber, byteNumber, signBytes, zeroed, answerNumber, answerSigns};
+ghost use Rattle.fs_line.specs.Answers.{signMeant, signNumber, byteNumber, signBytes, zeroed, answerNumber, answerSigns};
 
 // 01's number of a line that is not allowed where FS is awaited.
 const LINE_NOT_ALLOWED: u8 = refusal::LINE_NOT_ALLOWED;
@@ -42,7 +42,7 @@ const NO_SIGN: u8 = 0;
 const LETTERS: u8 = 1;
 
 // The most digits of an offset.
-const OFFSET_DIGITS: usize = 6;
+const OFFSET_DIGITS: usize = transfer_step::OFFSET_DIGITS as usize;
 
 // What a byte says as the answer to a proposal; any other byte than `+`, `-`, `=` says nothing.
 pub enum Sign {
@@ -60,7 +60,7 @@ pub struct Answers {
 
 // The sign that a byte is.
 pub fn sign_of(b: u8) -> Sign
-    ensures { λ r. ⌜ (signIs r ≡ signOf b) × (signNumber r ≡ byteNumber b) ⌝ }
+    ensures { λ r. ⌜ (signMeant r ≡ signOf b) × (signNumber r ≡ byteNumber b) ⌝ }
 {
     match b {
         b'+' => Sign::Accept,
@@ -209,7 +209,7 @@ fn sign_at(s: &[u8], level: u8) -> SignRead
 }
 
 // The byte is the letter, in either case.
-fn is_letter(b: u8, capital: u8) -> bool
+fn is_in_either_case(b: u8, capital: u8) -> bool
     ensures { λ r. ⌜ r ≡ eqb (upper b) capital ⌝ }
 {
     upper_of(b) == capital
@@ -217,15 +217,15 @@ fn is_letter(b: u8, capital: u8) -> bool
 
 // The line begins with FS, in either case.
 fn begins_fs(line: &[u8]) -> bool
-    ensures { λ r. ⌜ r ≡ isSome (after (text "FS") (now (line .entry))) ⌝ }
+    ensures { λ r. ⌜ r ≡ isSome (afterCapitals (text "FS") (now (line .entry))) ⌝ }
 {
     if line.len() < FS_LETTERS {
         return false;
     }
-    if !is_letter(line[0], b'F') {
+    if !is_in_either_case(line[0], b'F') {
         return false;
     }
-    is_letter(line[1], b'S')
+    is_in_either_case(line[1], b'S')
 }
 
 // A refusal: its number and no signs.

@@ -14,25 +14,25 @@ use Rattle.layout.specs.Layout.{byteAt, le8At}
 use Rattle.places.specs.Places.{sessionLen, firstAt, thenAt, posAt, oursAt, sendingAt, signsAt}
 use Rattle.places.specs.Places as places
 use Rattle.phase.specs.Phase.{blockLimit}
-use Rattle.buffer.specs.Put.{Puts, cut, wrote, putBytes}
+use Rattle.buffer.specs.Put.{Puts, cut, wrote, putBytes, cursor}
 use Rattle.buffer.specs.declared.Cursor.{Cursor}
-use Rattle.buffer.proofs.Laws.{cursor, cursor-at, cut-length}
-use Rattle.session_memory.specs.State.{at, loadOf, loadAwait, loadSay, loadKeep, saveOf}
+use Rattle.buffer.proofs.Laws.{cursor-at, cut-length}
+use Rattle.session_memory.specs.State.{cursorAt, loadOf, loadAwait, loadSay, loadKeep, saveOf}
 use Rattle.session_memory.specs.Setters as setters
 use Rattle.session_memory.specs.Session.{Session}
 use Rattle.session_memory.proofs.Laws.{array-length}
 use Rattle.numbers.specs.Whole.{wholeOf, numbersAt, sayNumbers, numberBytes}
 use Rattle.numbers.proofs.Laws.{load-whole}
-use Rattle.numbers_in_place.specs.Changed.{withSay}
+use Rattle.numbers_in_place.specs.Changed.{withPieces}
 use Rattle.numbers_in_place.proofs.Arrays.{saved-numbers}
 use Rattle.waiting.specs.Waiting.{waitingOf}
-use Rattle.waiting.specs.Pieces.{joined, piecesOf}
+use Rattle.waiting.specs.Pieces.{piecesJoined, piecesOf}
 use Rattle.waiting.proofs.Pieces.{pieces-joined}
 use Rattle.waiting.proofs.Short.{record-short, waiting-short, waitingBound}
 use Rattle.pending.specs.Pending.{waits, silentOf}
-use Rattle.give_place.specs.Located.{At}
+use Rattle.give_place.specs.Located.{PlaceOfByte}
 use Rattle.give_place.specs.declared.Place.{Place}
-use Rattle.form_test.specs.Form.{formOf, Next}
+use Rattle.form_test.specs.Form.{formOf, NextToGive}
 use Rattle.give.specs.declared.Reply.{Reply}
 use Rattle.give.specs.declared.Handout.{Handout}
 use Rattle.give.specs.Giving.{Given, Hands, reply, handedOf, handing, leftOf, giveOf}
@@ -40,13 +40,13 @@ use Rattle.give.specs.Giving.{Given, Hands, reply, handedOf, handing, le
 -- ---------------------------------------------------------------- for `hand`
 
 -- the pieces from p's on, put into the buffer from place on, where p is the place of byte pos
-module _ (ps : List Bytes) (pos : ℕ) (p : Place) (a : At ps pos p) (buf : Bytes) (place : ℕ) {d : Cursor} {e : Bytes}
-    (q : Puts buf (cursor place (p .offset)) (joined (drop (p .piece) ps)) d e) where
+module _ (ps : List Bytes) (pos : ℕ) (p : Place) (a : PlaceOfByte ps pos p) (buf : Bytes) (place : ℕ) {d : Cursor} {e : Bytes}
+    (q : Puts buf (cursor place (p .offset)) (piecesJoined (drop (p .piece) ps)) d e) where
   abbrev all : Bytes
-  all = joined ps
+  all = piecesJoined ps
 
   abbrev rest : Bytes
-  rest = joined (drop (p .piece) ps)
+  rest = piecesJoined (drop (p .piece) ps)
 
   -- as much is left from p on as from byte pos on
   same-left : length all - pos ≡ length rest - p .offset
@@ -101,21 +101,21 @@ module _ (sm table titles names bodies : Bytes) (p : Place) where
   abbrev s : Session
   s = loadOf sm
 
-  module _ (a : At (piecesOf s table titles names bodies) (s .say .pos) p) (buf : Bytes) (place : ℕ) {d : Cursor} {e : Bytes}
-      (q : Puts buf (cursor place (p .offset)) (joined (drop (p .piece) (piecesOf s table titles names bodies))) d e) where
-    pub hands : {n : ℕ} {b : Bool} → n ≡ le8At sm posAt → b ≡ ltb (s .say .pos + (d .at - place)) (length (joined (piecesOf s table titles names bodies)))
+  module _ (a : PlaceOfByte (piecesOf s table titles names bodies) (s .say .pos) p) (buf : Bytes) (place : ℕ) {d : Cursor} {e : Bytes}
+      (q : Puts buf (cursor place (p .offset)) (piecesJoined (drop (p .piece) (piecesOf s table titles names bodies))) d e) where
+    pub hands : {n : ℕ} {b : Bool} → n ≡ le8At sm posAt → b ≡ ltb (s .say .pos + (d .at - place)) (length (piecesJoined (piecesOf s table titles names bodies)))
         → Hands s (waitingOf s table titles names bodies) buf place (record { count = d .at - place; pos = n + (d .at - place); left = b }) e
     unfolding loadOf loadSay
     hands {n} {b} f g =
         subst (λ (w : Bytes). Hands s w buf place (record { count = d .at - place; pos = n + (d .at - place); left = b }) e) (pieces-joined s table titles names bodies) (
           hand-count (piecesOf s table titles names bodies) (s .say .pos) p a buf place q,
           ap (λ (k : ℕ). k + (d .at - place)) f,
-          g ∙ ap (λ (k : ℕ). ltb (k + (d .at - place)) (length (joined (piecesOf s table titles names bodies)))) (sym f),
+          g ∙ ap (λ (k : ℕ). ltb (k + (d .at - place)) (length (piecesJoined (piecesOf s table titles names bodies)))) (sym f),
           hand-bytes (piecesOf s table titles names bodies) (s .say .pos) p a buf place q,
         )
 
   -- all that waits is short
-  pub short : ((i : ℕ) → byteAt table i < byteValues) → length (joined (piecesOf s table titles names bodies)) ≤ waitingBound
+  pub short : ((i : ℕ) → byteAt table i < byteValues) → length (piecesJoined (piecesOf s table titles names bodies)) ≤ waitingBound
   unfolding loadOf loadAwait loadSay loadKeep
   short o =
       let k = waiting-short table titles names bodies (record-short table titles names bodies o) s (array-length blockLimit sm (oursAt + 1)) (array-length blockLimit sm (signsAt + 1)) (array-length blockLimit sm (sendingAt + 1)) in
@@ -125,19 +125,19 @@ module _ (sm table titles names bodies : Bytes) (p : Place) where
 
 module _ (sm : Bytes) (n : length sm ≡ sessionLen) (pos : ℕ) {m : Bytes} where
   pub keep-some : {first then : ℕ} → first ≡ byteAt sm firstAt → then ≡ byteAt sm thenAt
-      → m ≡ putBytes sm (at places.numbersStart) (numberBytes (withSay first then pos (numbersAt sm))) → {b : Bool} → b ≡ true → m ≡ saveOf sm (leftOf b pos (loadOf sm))
+      → m ≡ putBytes sm (cursorAt places.numbersStart) (numberBytes (withPieces first then pos (numbersAt sm))) → {b : Bool} → b ≡ true → m ≡ saveOf sm (leftOf b pos (loadOf sm))
   unfolding wholeOf numbersAt sayNumbers
   keep-some {first} {then} f g e {b} t =
-      let h = withSay (byteAt sm firstAt) (byteAt sm thenAt) pos (numbersAt sm) in
+      let h = withPieces (byteAt sm firstAt) (byteAt sm thenAt) pos (numbersAt sm) in
       saved-numbers sm h n
-      (e ∙ ap (λ (x : ℕ). putBytes sm (at places.numbersStart) (numberBytes (withSay x then pos (numbersAt sm)))) f
-      ∙ ap (λ (x : ℕ). putBytes sm (at places.numbersStart) (numberBytes (withSay (byteAt sm firstAt) x pos (numbersAt sm)))) g)
+      (e ∙ ap (λ (x : ℕ). putBytes sm (cursorAt places.numbersStart) (numberBytes (withPieces x then pos (numbersAt sm)))) f
+      ∙ ap (λ (x : ℕ). putBytes sm (cursorAt places.numbersStart) (numberBytes (withPieces (byteAt sm firstAt) x pos (numbersAt sm)))) g)
       ∙ ap (saveOf sm) (ap (λ (x : Session). setters.withSay (setters.withPos pos (x .say)) x) (sym (load-whole sm n)) ∙ ap (λ (x : Bool). leftOf x pos (loadOf sm)) (sym t))
 
-  pub keep-none : m ≡ putBytes sm (at places.numbersStart) (numberBytes (withSay 0 0 0 (numbersAt sm))) → {b : Bool} → b ≡ false → m ≡ saveOf sm (leftOf b pos (loadOf sm))
+  pub keep-none : m ≡ putBytes sm (cursorAt places.numbersStart) (numberBytes (withPieces 0 0 0 (numbersAt sm))) → {b : Bool} → b ≡ false → m ≡ saveOf sm (leftOf b pos (loadOf sm))
   unfolding wholeOf silentOf
   keep-none e {b} t =
-      saved-numbers sm (withSay 0 0 0 (numbersAt sm)) n e
+      saved-numbers sm (withPieces 0 0 0 (numbersAt sm)) n e
       ∙ ap (saveOf sm) (ap silentOf (sym (load-whole sm n)) ∙ ap (λ (x : Bool). leftOf x pos (loadOf sm)) (sym t))
 
 -- ---------------------------------------------------------------- for `give`
@@ -180,11 +180,11 @@ module _ (sm table titles names bodies known inbox store buf : Bytes) (place : �
     unfolding giveOf
     quiet t o = rw (passes, o, t)
 
-    module _ {p : Place} (x : b ≡ true → Next (loadOf sm) table titles names bodies p) where
-      next : Next (loadOf sm) table titles names bodies p
+    module _ {p : Place} (x : b ≡ true → NextToGive (loadOf sm) table titles names bodies p) where
+      next : NextToGive (loadOf sm) table titles names bodies p
       next = x (not-false b q)
 
-      pub place-at : not (p .left) ≡ false → At (piecesOf (loadOf sm) table titles names bodies) (loadOf sm .say .pos) p
+      pub place-at : not (p .left) ≡ false → PlaceOfByte (piecesOf (loadOf sm) table titles names bodies) (loadOf sm .say .pos) p
       place-at l = next .1 (not-false (p .left) l)
 
       -- nothing waits

@@ -2,7 +2,7 @@
 use buffer::Cursor;
 use give_place::Place;
 use number_at::eight;
-use numbers_in_place::put_say;
+use numbers_in_place::put_pieces;
 ghost use mathlib.Core.Path.{_≡_};
 ghost use lib.ListN.{length};
 ghost use Rattle.grammar.specs.Refusals.{badMemory, noPlace};
@@ -10,7 +10,7 @@ ghost use Rattle.places.specs.Places.{sessionLen};
 ghost use Rattle.session_memory.specs.State.{loadOf, saveOf};
 ghost use Rattle.waiting.specs.Waiting.{waitingOf};
 ghost use Rattle.waiting.specs.Pieces.{piecesOf};
-ghost use Rattle.give_place.specs.Located.{At};
+ghost use Rattle.give_place.specs.Located.{PlaceOfByte};
 ghost use Rattle.give.specs.Giving.{reply, Hands, leftOf, giveOf};
 
 // What a call answers: 01's number, the place of a bad record (255: none; 0 but for number 1), the bytes dealt with.
@@ -64,7 +64,7 @@ fn hand<'a>(
     names: &'a [u8],
     bodies: &[u8],
 ) -> Handout
-    requires { ⌜ (length (now sm) ≡ sessionLen) × At (piecesOf (loadOf (now sm)) (now table) (now titles) (now names) (now bodies)) (loadOf (now sm) .say .pos) p ⌝ }
+    requires { ⌜ (length (now sm) ≡ sessionLen) × PlaceOfByte (piecesOf (loadOf (now sm)) (now table) (now titles) (now names) (now bodies)) (loadOf (now sm) .say .pos) p ⌝ }
     ensures { λ r. ⌜ Hands (loadOf (now (sm .entry))) (waitingOf (loadOf (now (sm .entry))) (now (table .entry)) (now (titles .entry)) (now (names .entry)) (now (bodies .entry))) (now (buf .entry)) place r (now (buf .exit)) ⌝ }
 {
     let c = Cursor {
@@ -105,10 +105,10 @@ fn keep(sm: &mut [u8], left: bool, pos: usize)
     if left {
         let first = sm[places::FIRST];
         let then = sm[places::THEN];
-        put_say(sm, first, then, pos);
+        put_pieces(sm, first, then, pos);
         return;
     }
-    put_say(sm, phase::PIECE_NONE, phase::PIECE_NONE, 0);
+    put_pieces(sm, phase::PIECE_NONE, phase::PIECE_NONE, 0);
 }
 
 // Hands out as many waiting bytes as fit into buf from place on.

@@ -21,7 +21,7 @@ use Rattle.session_memory.proofs.Laws.{array-length}
 use Rattle.phase.specs.Phase.{blockLimit, pieceBlock}
 use Rattle.text_length.specs.Lengths.{fixedLength, besideSigns}
 use Rattle.waiting.specs.Waiting.{firstText}
-use Rattle.waiting.specs.Pieces.{joined, blockPieces, piecesOf}
+use Rattle.waiting.specs.Pieces.{piecesJoined, blockPieces, piecesOf}
 use Rattle.waiting.proofs.Pieces.{pieces-more, pieces-end, block-end, piece-first, piece-FF, piece-FQ}
 use Rattle.waiting.proofs.Said.{Unnamed, first-signs, block-text, said, sent-text}
 use Rattle.give_place.specs.declared.Place.{Place}
@@ -75,26 +75,26 @@ ltb-add m p l h = go (ltb (p - m) l) refl
     go false e = let k = ltb-false (p - m) l e in le-ltb p (m + l) (omega arith)
 
 module _ (ps : List Bytes) (k : ℕ) (h : k < length ps) (p : ℕ) {m : ℕ} (q : m ≡ length (getD ps k [])) where
-  split : length (joined (drop k ps)) ≡ m + length (joined (drop (k + 1) ps))
-  split = ap length (sym (pieces-more ps k h)) ∙ length-append (getD ps k []) (joined (drop (k + 1) ps)) ∙ ap (λ (n : ℕ). n + length (joined (drop (k + 1) ps))) (sym q)
+  split : length (piecesJoined (drop k ps)) ≡ m + length (piecesJoined (drop (k + 1) ps))
+  split = ap length (sym (pieces-more ps k h)) ∙ length-append (getD ps k []) (piecesJoined (drop (k + 1) ps)) ∙ ap (λ (n : ℕ). n + length (piecesJoined (drop (k + 1) ps))) (sym q)
 
   -- byte p is in this piece
-  pub in-piece : p < m → (ltb p (length (joined (drop k ps))) ≡ true) × (m ≤ length (joined (drop k ps)))
-  in-piece g = (lt-ltb p (length (joined (drop k ps))) (omega (arith, split)), omega (arith, split))
+  pub in-piece : p < m → (ltb p (length (piecesJoined (drop k ps))) ≡ true) × (m ≤ length (piecesJoined (drop k ps)))
+  in-piece g = (lt-ltb p (length (piecesJoined (drop k ps))) (omega (arith, split)), omega (arith, split))
 
   -- or after it
-  pub past-piece : m ≤ p → ltb p (length (joined (drop k ps))) ≡ ltb (p - m) (length (joined (drop (k + 1) ps)))
-  past-piece g = ap (ltb p) split ∙ ltb-add m p (length (joined (drop (k + 1) ps))) g
+  pub past-piece : m ≤ p → ltb p (length (piecesJoined (drop k ps))) ≡ ltb (p - m) (length (piecesJoined (drop (k + 1) ps)))
+  past-piece g = ap (ltb p) split ∙ ltb-add m p (length (piecesJoined (drop (k + 1) ps))) g
 
-  rest-after : m ≤ p → drop p (joined (drop k ps)) ≡ drop (p - m) (joined (drop (k + 1) ps))
+  rest-after : m ≤ p → drop p (piecesJoined (drop k ps)) ≡ drop (p - m) (piecesJoined (drop (k + 1) ps))
   rest-after g =
       let y = getD ps k [] in
-      let z = joined (drop (k + 1) ps) in
+      let z = piecesJoined (drop (k + 1) ps) in
       let e : length y + (p - m) ≡ p = omega arith in
       ap (drop p) (sym (pieces-more ps k h)) ∙ ap (λ (i : ℕ). drop i (y ++ z)) (sym e) ∙ drop-append-add y z (p - m)
 
 -- after the last piece there is nothing
-pub past-all : (ps : List Bytes) (k p : ℕ) → length ps ≤ k → ltb p (length (joined (drop k ps))) ≡ false
+pub past-all : (ps : List Bytes) (k p : ℕ) → length ps ≤ k → ltb p (length (piecesJoined (drop k ps))) ≡ false
 past-all ps k p h = ap (λ (l : Bytes). ltb p (length l)) (pieces-end ps k h) ∙ le-ltb p 0 (omega arith)
 
 -- ---------------------------------------------------------------- for `locate`
@@ -102,8 +102,8 @@ past-all ps k p h = ap (λ (l : Bytes). ltb p (length l)) (pieces-end ps k h) �
 -- byte pos of the pieces is byte p of those from k on
 pub record From (ps : List Bytes) (pos p k : ℕ) : Type 0 where
   pub before : p ≤ pos
-  pub rest : drop pos (joined ps) ≡ drop p (joined (drop k ps))
-  pub test : ltb pos (length (joined ps)) ≡ ltb p (length (joined (drop k ps)))
+  pub rest : drop pos (piecesJoined ps) ≡ drop p (piecesJoined (drop k ps))
+  pub test : ltb pos (length (piecesJoined ps)) ≡ ltb p (length (piecesJoined (drop k ps)))
 
 pub from-start : (ps : List Bytes) (pos : ℕ) → From ps pos pos 0
 from-start ps pos = record { before = omega arith; rest = refl; test = refl }
@@ -119,7 +119,7 @@ module _ (ps : List Bytes) (pos p k : ℕ) (a : From ps pos p k) where
   pub from-found : k < length ps → {m : ℕ} → m ≡ length (getD ps k []) → p < m → Located ps pos (place true m)
   from-found h q g =
       let i = in-piece ps k h p q g in
-      (sym (a .test ∙ i .0), λ t. record { rest = a .rest; few = i .1; before = a .before; there = ltb-true pos (length (joined ps)) (a .test ∙ i .0) })
+      (sym (a .test ∙ i .0), λ t. record { rest = a .rest; few = i .1; before = a .before; there = ltb-true pos (length (piecesJoined ps)) (a .test ∙ i .0) })
 
   pub from-end : length ps ≤ k → Located ps pos (place false 0)
   from-end h = (sym (a .test ∙ past-all ps k p h), λ t. absurd (true≢false (sym t)))

@@ -7,7 +7,7 @@ ghost use lib.Dec.{ltb};
 ghost use lib.ListN.{length, getD, drop};
 ghost use Rattle.session_memory.specs.State.{held, loadOf};
 ghost use Rattle.waiting.specs.Waiting.{firstText};
-ghost use Rattle.waiting.specs.Pieces.{joined, blockPieces, piecesOf};
+ghost use Rattle.waiting.specs.Pieces.{piecesJoined, blockPieces, piecesOf};
 ghost use Rattle.give_place.specs.Located.{Located};
 ghost use Rattle.places.specs.Places.{sessionLen};
 
@@ -29,18 +29,18 @@ fn first_length(sm: &[u8]) -> usize
         return 0;
     }
     if first == phase::PIECE_SID_AND_PROMPT {
-        return text_length::SID + text_length::PROMPT;
+        return text_length::SID_LENGTH + text_length::PROMPT_LENGTH;
     }
     if first == phase::PIECE_SID {
-        return text_length::SID;
+        return text_length::SID_LENGTH;
     }
     if first == phase::PIECE_PROTOCOL_ERROR {
-        return text_length::ERROR;
+        return text_length::ERROR_LENGTH;
     }
     if first == phase::PIECE_CHECKSUM_ERROR {
-        return text_length::ERROR;
+        return text_length::ERROR_LENGTH;
     }
-    text_length::FS + in_use(sm[places::SIGNS]) as usize
+    text_length::FS_LENGTH + in_use(sm[places::SIGNS]) as usize
 }
 
 // Piece k where our block waits: a proposal, or `F>`.
@@ -49,7 +49,7 @@ fn block_length(k: u8, sm: &[u8], table: &[u8]) -> usize
     ensures { λ r. ⌜ r ≡ length (getD (blockPieces (now (table .entry)) (held (loadOf (now (sm .entry)) .now .ours))) (k - 1) []) ⌝ }
 {
     if in_use(sm[places::OURS]) < k {
-        return text_length::FIXED;
+        return text_length::FIXED_LENGTH;
     }
     text_length::proposal(table, sm[places::OURS + k as usize])
 }
@@ -71,7 +71,7 @@ fn piece_length<'a>(
     }
     let then = sm[places::THEN];
     if then < phase::PIECE_BLOCK {
-        return text_length::FIXED;
+        return text_length::FIXED_LENGTH;
     }
     if then == phase::PIECE_BLOCK {
         return block_length(k, &sm[..], &table[..]);
@@ -141,7 +141,7 @@ pub fn is_left<'a>(
     bodies: &[u8],
 ) -> bool
     requires { ⌜ length (now sm) ≡ sessionLen ⌝ }
-    ensures { λ r. ⌜ r ≡ ltb offset (length (joined (drop from (piecesOf (loadOf (now (sm .entry))) (now (table .entry)) (now (titles .entry)) (now (names .entry)) (now (bodies .entry)))))) ⌝ }
+    ensures { λ r. ⌜ r ≡ ltb offset (length (piecesJoined (drop from (piecesOf (loadOf (now (sm .entry))) (now (table .entry)) (now (titles .entry)) (now (names .entry)) (now (bodies .entry)))))) ⌝ }
 {
     let n = waiting::piece_count(sm);
     let mut p = offset;

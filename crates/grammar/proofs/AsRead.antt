@@ -11,7 +11,7 @@ use lib.ListN.{length, length-set, set}
 use borrow.Author.Tests.{ltb-true}
 use Rattle.grammar.specs.Bytes.{Bytes, CR, CTRLZ, every, before, byteValues, null, same, splitAt, NUL, SOH}
 use Rattle.grammar.specs.Ascii.{text, char}
-use Rattle.grammar.specs.Fields.{Form, after, bodyFair, digit, file, hexDigit, hexPair, isAt, isBid, isCall, isHeading, isSize, message, plain, readFrom, sized, starts, twoHex, upper, words, digitsEnd, sizeDigits, hexEnd, hexAbove, hexBase}
+use Rattle.grammar.specs.Fields.{Form, afterCapitals, bodyFair, digit, file, hexDigit, hexPair, isAt, isBid, isCall, isHeading, isSize, message, plain, readFrom, sized, starts, twoHex, upper, words, digitsEnd, sizeDigits, hexEnd, hexAbove, hexBase}
 use Rattle.grammar.specs.Sid.{authorByte, authorRead, dataByte, dataRead, hasFeature, isLetter, letterPlace, noFeatures, readFeatures, readLevels, readSid, sidEnd, sidRead, splitLast, withFeature, dollarPlace, featurePlaces, levelValues}
 use Rattle.grammar.specs.Turns.{Proposal, fieldsRead, formSaid, inMode, isType, readProposal, sevenRead, typeOf, TurnLine, saysFF, saysFQ, endsBlock, notAllowed, proposes, endsSummed, orNotAllowed, readSummedEnd, readTurnLine, summedOr, twoHexRead}
 use Rattle.grammar.specs.Answers.{offsetDigits}
@@ -157,7 +157,7 @@ two-hex-if (a ∷ b ∷ c ∷ cs) = tt
 
 summed-if : (ln : Bytes) → Below byteValues (readSummedEnd ln)
 unfolding readSummedEnd
-summed-if ln = go (after (text "F> ") ln)
+summed-if ln = go (afterCapitals (text "F> ") ln)
   where
     go : (o : Option Bytes) → Below byteValues (twoHexRead o)
     go none = tt
@@ -237,7 +237,7 @@ sid-if (some r) = author-27 (splitAt (char "-") r)
 -- a SID that is read has 27 levels
 pub sid-27 : (ln : Bytes) → Levels (readSid ln)
 unfolding readSid
-sid-27 ln = sid-if (after (text "[") ln)
+sid-27 ln = sid-if (afterCapitals (text "[") ln)
 
 -- ---------------------------------------------------------------- transfers as read
 

@@ -8,14 +8,14 @@ use native.Mathlib.Omega.{arith}
 use lib.Dec.{eqb, ltb}
 use lib.ListN.{length, take, drop, length-take, length-drop, take-append-drop}
 use borrow.Author.Tests.{ne-eqb, eqb-true, eqb-false, ltb-false}
-use Rattle.grammar.specs.Bytes.{Bytes, SP, byteValues, NUL, STX, EOT}
+use Rattle.grammar.specs.Bytes.{Bytes, SP, byteValues, NUL, STX, EOT, joined}
 use Rattle.grammar.specs.Ascii.{char}
 use Rattle.grammar.specs.Fields.{Form, bidByte, callByte, decimal, digit, file, headingByte, isBody, isHeading, message, plain, readFrom, writeNum, callMax, atMax, bidMax, headingMax, decimalDigits, decimalBase}
 use Rattle.grammar.specs.Turns.{Proposal, formLetter, proposable, proposalLine, sp}
 use Rattle.grammar.specs.Transfers.{TransferKind, plainKind, framedKind, kindOf, blocksOut, checksum, sendable, writeFramed, writeTransfer, dataMax, besideLeast}
-use Rattle.grammar.specs.AsWritten.{betweenSpaces, noLeadingZero, lettersFor, ProposalWritten, InBlocks, joined, blockNumber, blocksText, FramedWritten, TransferWritten, wholeBlock, ourOffset, twoZeros}
+use Rattle.grammar.specs.AsWritten.{betweenSpaces, noLeadingZero, lettersFor, ProposalWritten, InBlocks, blockNumber, blocksText, FramedWritten, TransferWritten, wholeBlock, ourOffset, twoZeros}
 use Rattle.grammar.proofs.Basics.{and2, Lacks, field-is}
-use Rattle.grammar.proofs.Fields.{num-field, num-back, size-ok, atByte, at-field, Word, field-word, type-word, letters-word, ours, call-field, bid-field}
+use Rattle.grammar.proofs.Fields.{num-field, num-back, size-ok, atByte, at-field, Word, field-word, type-word, letters-word, our-proposal-fair, call-field, bid-field}
 
 -- ---------------------------------------------------------------- a proposal
 
@@ -81,7 +81,7 @@ shortest (suc f) n h = go (ltb n decimalBase) refl (shortest f (n / decimalBase)
 pub proposal-written : (p : Proposal) → proposable p ≡ true → ProposalWritten p (proposalLine p)
 unfolding proposalLine
 proposal-written p e =
-    let h = ours p e in
+    let h = our-proposal-fair p e in
     record {
       digits = decimal (p .size);
       fields =

@@ -47,8 +47,8 @@ or-second true b e k = cc
 or-second false b e k = k
 
 -- what the test `!x` says of y, which x is
-pub told : {x y : Bool} → x ≡ y → not x ≡ false → y ≡ true
-told {x} q e = sym q ∙ not-false x e
+pub not-told : {x y : Bool} → x ≡ y → not x ≡ false → y ≡ true
+not-told {x} q e = sym q ∙ not-false x e
 
 pub told-not : {x y : Bool} → x ≡ y → not x ≡ true → y ≡ false
 told-not {x} q e = sym q ∙ not-true x e

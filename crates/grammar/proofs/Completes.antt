@@ -19,19 +19,19 @@ use Rattle.grammar.proofs.Rest.{onto-nil, rest, Ok, RightAt}
 use Rattle.grammar.proofs.Headers.{header-of}
 
 -- bytes that make the transfer whole, wherever it stands
-abbrev pub complete : Scan → Bytes
-complete (inTitle []) = char "A" ∷ CR ∷ CTRLZ ∷ CR ∷ []
-complete (inTitle (x ∷ t)) = CR ∷ CTRLZ ∷ CR ∷ []
-complete (inBody t x) = CTRLZ ∷ CR ∷ []
-complete (inMark t x) = CR ∷ []
-complete atStart = SOH ∷ lenLeast ∷ char "A" ∷ NUL ∷ offsetDigit ∷ NUL ∷ EOT ∷ 0 ∷ []
-complete atLen = lenLeast ∷ char "A" ∷ NUL ∷ offsetDigit ∷ NUL ∷ EOT ∷ 0 ∷ []
-complete (inHead len h) =
+abbrev pub completing : Scan → Bytes
+completing (inTitle []) = char "A" ∷ CR ∷ CTRLZ ∷ CR ∷ []
+completing (inTitle (x ∷ t)) = CR ∷ CTRLZ ∷ CR ∷ []
+completing (inBody t x) = CTRLZ ∷ CR ∷ []
+completing (inMark t x) = CR ∷ []
+completing atStart = SOH ∷ lenLeast ∷ char "A" ∷ NUL ∷ offsetDigit ∷ NUL ∷ EOT ∷ 0 ∷ []
+completing atLen = lenLeast ∷ char "A" ∷ NUL ∷ offsetDigit ∷ NUL ∷ EOT ∷ 0 ∷ []
+completing (inHead len h) =
     replicate (min headingMax (len - besideLeast) - length h) (char "A") ++ NUL ∷ (replicate (len - headerNuls - min headingMax (len - besideLeast)) offsetDigit ++ NUL ∷ EOT ∷ 0 ∷ [])
-complete (inOff len h o) = replicate (len - headerNuls - length h - length o) offsetDigit ++ NUL ∷ EOT ∷ 0 ∷ []
-complete (inData h x k) = replicate k 0 ++ EOT ∷ checksum x ∷ []
-complete (atSize h x) = 1 ∷ 0 ∷ EOT ∷ checksum x ∷ []
-complete (atSum h x) = checksum x ∷ []
+completing (inOff len h o) = replicate (len - headerNuls - length h - length o) offsetDigit ++ NUL ∷ EOT ∷ 0 ∷ []
+completing (inData h x k) = replicate k 0 ++ EOT ∷ checksum x ∷ []
+completing (atSize h x) = 1 ∷ 0 ∷ EOT ∷ checksum x ∷ []
+completing (atSum h x) = checksum x ∷ []
 
 -- body bytes that must still come, after those that came
 abbrev pub pending : Scan → ℕ
@@ -89,7 +89,7 @@ done-head len n m h e a b c d s =
     (field-of headingByte headingMax (h ++ replicate n (char "A")) (all-append headingByte h (replicate n (char "A")) e (all-replicate headingByte n (char "A") refl)) (omega arith) (omega arith))
     refl (omega arith) (omega arith) (omega arith)))
 
-pub completes : (sc : Scan) → Ok sc → RightAt (length (bodyOf sc) + pending sc) (rest sc (complete sc))
+pub completes : (sc : Scan) → Ok sc → RightAt (length (bodyOf sc) + pending sc) (rest sc (completing sc))
 completes (inTitle []) k = (refl, refl)
 completes (inTitle (x ∷ t)) k = rw (append-nil t) (rw (field-of headingByte headingMax (x ∷ t) (k .0) (omega arith) (k .1)) (refl, refl))
 completes (inBody t x) k = (refl, nil-length x)
@@ -111,7 +111,7 @@ completes (inData h x k) u = rw (blocks-zeros k (checksum x)) (sum-closed x k, s
 completes (atSize h x) k = (sum-closed x 1, snoc-length x 0)
 completes (atSum h x) k = (sum-closed x 0, nil-length x)
 
-pub complete-octets : (sc : Scan) → every octet (complete sc) ≡ true
+pub complete-octets : (sc : Scan) → every octet (completing sc) ≡ true
 complete-octets (inTitle []) = refl
 complete-octets (inTitle (x ∷ t)) = refl
 complete-octets (inBody t x) = refl

@@ -6,9 +6,9 @@ use Rattle.grammar.specs.Lines.{isComment, isPrompt, trim}
 use Rattle.grammar.specs.Sid.{readSid}
 use Rattle.grammar.specs.Turns.{readProposal, readSummedEnd, readTurnLine}
 use Rattle.grammar.specs.Transfers.{parse, readTransfer}
-use Rattle.grammar.specs.Examples.{answered, expected}
+use Rattle.grammar.specs.Examples.{exampleAnswered, expected}
 use Rattle.grammar.specs.Edges.{byteEdges}
 
-pub at-byte-edges : map answered byteEdges ≡ map expected byteEdges
+pub at-byte-edges : map exampleAnswered byteEdges ≡ map expected byteEdges
 unfolding words isCall isAt isBid isSize readFrom hexDigit twoHex trim isComment isPrompt readSid readSummedEnd readTurnLine readProposal parse readTransfer
 at-byte-edges = refl

@@ -8,14 +8,14 @@ use Rattle.grammar.proofs.Rest.{Ok, StepOk}
 use Rattle.grammar.proofs.PlainStep.{step-title, step-body, step-mark}
 use Rattle.grammar.proofs.FramedStep.{step-start, step-len, step-head, step-off, step-data, step-sum}
 
-pub step : (room : ℕ) (sc : Scan) (b : ℕ) → Ok sc → length (bodyOf sc) ≤ room → StepOk room (scanByte room sc b) sc b
-step room (inTitle t) b k l = step-title room t b k
-step room (inBody t x) b k l = step-body room t x b l
-step room (inMark t x) b k l = step-mark room t x b l
-step room atStart b k l = step-start room b
-step room atLen b k l = step-len room b
-step room (inHead len h) b k l = step-head room len h b k
-step room (inOff len h o) b k l = step-off room len h o b k
-step room (inData h x n) b k l = step-data room h x n b l
-step room (atSize h x) b k l = (λ r. refl, tt, l)
-step room (atSum h x) b k l = step-sum room h x b l
+pub scan-step : (room : ℕ) (sc : Scan) (b : ℕ) → Ok sc → length (bodyOf sc) ≤ room → StepOk room (scanByte room sc b) sc b
+scan-step room (inTitle t) b k l = step-title room t b k
+scan-step room (inBody t x) b k l = step-body room t x b l
+scan-step room (inMark t x) b k l = step-mark room t x b l
+scan-step room atStart b k l = step-start room b
+scan-step room atLen b k l = step-len room b
+scan-step room (inHead len h) b k l = step-head room len h b k
+scan-step room (inOff len h o) b k l = step-off room len h o b k
+scan-step room (inData h x n) b k l = step-data room h x n b l
+scan-step room (atSize h x) b k l = (λ r. refl, tt, l)
+scan-step room (atSum h x) b k l = step-sum room h x b l

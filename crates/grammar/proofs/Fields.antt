@@ -10,7 +10,7 @@ use lib.ListN.{length, length-append}
 use borrow.Author.Tests.{ltb-true, lt-ltb, le-ltb, leb-true, ne-eqb, eqb-true}
 use Rattle.grammar.specs.Bytes.{Bytes, SP, every}
 use Rattle.grammar.specs.Ascii.{char}
-use Rattle.grammar.specs.Fields.{Form, afterDot, allCalls, bidByte, callByte, decimal, digit, field, file, isAt, isBid, isCall, isSize, message, parts, plain, readFrom, toFirst, upper, words, writeNum, callMax, atMax, afterDotMax, bidMax, digitsEnd, sizeDigits, decimalDigits, decimalBase}
+use Rattle.grammar.specs.Fields.{Form, afterDot, allCalls, bidByte, callByte, decimal, digit, field, file, isAt, isBid, isCall, isSize, message, parts, plain, readFrom, toFirst, upper, words, writeNum, callMax, atMax, hierarchyMax, bidMax, digitsEnd, sizeDigits, decimalDigits, decimalBase}
 use Rattle.grammar.specs.Turns.{Proposal, formLetter, formSaid, inMode, isType, proposable, proposalLine, readProposal, sp, typeOf, sizeValues}
 use Rattle.grammar.proofs.Basics.{and2, both, all-append, Field, field-is, field-of, Lacks, all-lacks, or-left, or-right, or-second}
 
@@ -138,14 +138,14 @@ at-some (x ∷ w) e = omega arith
 pub at-field : (w : Bytes) → isAt w ≡ true → Field atByte atMax w
 unfolding isAt
 at-field w e =
-    let p = and2 (allCalls (parts w)) (leb (length w) atMax && leb (length (afterDot w)) afterDotMax) e in
-    let q = and2 (leb (length w) atMax) (leb (length (afterDot w)) afterDotMax) (p .1) in
+    let p = and2 (allCalls (parts w)) (leb (length w) atMax && leb (length (afterDot w)) hierarchyMax) e in
+    let q = and2 (leb (length w) atMax) (leb (length (afterDot w)) hierarchyMax) (p .1) in
     record { class = at-class w (calls-in (parts w) (p .0)); least = at-some w (p .0); most = leb-true (length w) atMax (q .0) }
 
 -- ---------------------------------------------------------------- a proposal
 
 -- what holds of a proposal of ours
-pub record Ours (p : Proposal) : Type 0 where
+pub record OurProposalFair (p : Proposal) : Type 0 where
   pub type : isType (p .type) ≡ true
   pub size : p .size < 10 ^ sizeDigits
   pub from : isCall (p .from) ≡ true
@@ -153,8 +153,8 @@ pub record Ours (p : Proposal) : Type 0 where
   pub to : isCall (p .to) ≡ true
   pub bid : isBid (p .bid) ≡ true
 
-pub ours : (p : Proposal) → proposable p ≡ true → Ours p
-ours p e =
+pub our-proposal-fair : (p : Proposal) → proposable p ≡ true → OurProposalFair p
+our-proposal-fair p e =
     let a = and2 (isType (p .type) && ltb (p .size) sizeValues) ((isCall (p .from) && isAt (p .at)) && (isCall (p .to) && isBid (p .bid))) e in
     let b = and2 (isType (p .type)) (ltb (p .size) sizeValues) (a .0) in
     let c = and2 (isCall (p .from) && isAt (p .at)) (isCall (p .to) && isBid (p .bid)) (a .1) in
@@ -204,11 +204,11 @@ letters-word plain = (refl, (refl, tt))
 letters-word message = (refl, (refl, tt))
 letters-word file = (refl, (refl, tt))
 
-all-fields : (p : Proposal) → Ours p → (isCall (p .from) && isAt (p .at)) && ((isCall (p .to) && isBid (p .bid)) && isSize (decimal (p .size))) ≡ true
+all-fields : (p : Proposal) → OurProposalFair p → (isCall (p .from) && isAt (p .at)) && ((isCall (p .to) && isBid (p .bid)) && isSize (decimal (p .size))) ≡ true
 all-fields p h = rw (h .from) (rw (h .at) (rw (h .to) (rw (h .bid) (size-ok (p .size) (h .size)))))
 
 -- THE ROUND TRIP of a proposal: seven fields
-pub proposal-back : (md : Bool) (p : Proposal) → Ours p → inMode md (p .form) ≡ true → readProposal md (proposalLine p) ≡ some p
+pub proposal-back : (md : Bool) (p : Proposal) → OurProposalFair p → inMode md (p .form) ≡ true → readProposal md (proposalLine p) ≡ some p
 unfolding readProposal proposalLine
 proposal-back md p h e =
     rw (words-sp (char "F" ∷ formLetter (p .form) ∷ []) _ (letters-word (p .form)))

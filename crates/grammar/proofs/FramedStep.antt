@@ -17,7 +17,7 @@ use Rattle.grammar.specs.Scan.{atLen, atSize, atStart, atSum, goes, got,
 use Rattle.grammar.proofs.Basics.{and2, both, not-so, no-both, or2, nonzero, snoc-cons, all-append, all-mid, field-of, snoc-length, mid-length}
 use Rattle.grammar.proofs.Rest.{onto, onto-nil, onto-before, onto-data, sizeRead, lastRead, rest, Ok, rest-nil, Right, right-of, Longer, StepOk}
 use Rattle.grammar.proofs.Headers.{header-is, header-of, mid-head, off-none, head-none}
-use Rattle.grammar.proofs.Completes.{complete, completes, complete-octets}
+use Rattle.grammar.proofs.Completes.{completing, completes, complete-octets}
 
 -- a body that a block goes on with is longer than what is held
 data-longer : (room : ℕ) (t x : Bytes) (b : ℕ) (o : Option (Bytes × ℕ)) → room ≤ length x → Longer room (blocksRead t (onto (x ++ (b ∷ [])) o))
@@ -173,10 +173,10 @@ step-data room h x (suc k) b l = go (ltb (length x) room) refl
     go false q = (
       λ r. subst (Longer room) (sym (more r)) (data-longer room h x b (blocks k r) (ltb-false (length x) room q)),
       (
-        complete (inData h (x ++ (b ∷ [])) k),
+        completing (inData h (x ++ (b ∷ [])) k),
         complete-octets (inData h (x ++ (b ∷ [])) k),
-        subst Right (sym (more (complete (inData h (x ++ (b ∷ [])) k))))
-            (right-of (length (x ++ (b ∷ [])) + k) (rest (inData h (x ++ (b ∷ [])) k) (complete (inData h (x ++ (b ∷ [])) k))) (completes (inData h (x ++ (b ∷ [])) k) tt)),
+        subst Right (sym (more (completing (inData h (x ++ (b ∷ [])) k))))
+            (right-of (length (x ++ (b ∷ [])) + k) (rest (inData h (x ++ (b ∷ [])) k) (completing (inData h (x ++ (b ∷ [])) k))) (completes (inData h (x ++ (b ∷ [])) k) tt)),
       ),
       more [] ∙ rest-nil (inData h (x ++ (b ∷ [])) k),
     )

@@ -15,12 +15,12 @@ use Rattle.grammar.specs.Transfers.{headRead, isHeader, offRead, titleRe
 use Rattle.grammar.proofs.Basics.{and2, both, snoc-cons, all-mid, Field, field-is, mid-length}
 use Rattle.grammar.proofs.Rest.{onto, onto-nil}
 
-pub record Header (len : ℕ) (h o : Bytes) : Type 0 where
+pub record TransferHeader (len : ℕ) (h o : Bytes) : Type 0 where
   pub heading : Field headingByte headingMax h
   pub off : Field zeroDigit offsetDigits o
   pub sum-up : len ≡ length h + length o + headerNuls
 
-pub header-is : (len : ℕ) (h o : Bytes) → isHeader len h o ≡ true → Header len h o
+pub header-is : (len : ℕ) (h o : Bytes) → isHeader len h o ≡ true → TransferHeader len h o
 header-is len h o e =
     let p = and2 (isHeading h) (field zeroDigit offsetDigits o && eqb len (length h + length o + headerNuls)) e in
     let q = and2 (field zeroDigit offsetDigits o) (eqb len (length h + length o + headerNuls)) (p .1) in

@@ -10,12 +10,12 @@ use lib.ListN.{getD}
 use borrow.Author.Tests.{le-ltb, ltb-true, ltb-false}
 use Rattle.grammar.specs.Bytes.{Bytes}
 use Rattle.grammar.specs.Ascii.{text}
-use Rattle.grammar.specs.Fields.{after, readFrom, upper}
+use Rattle.grammar.specs.Fields.{afterCapitals, readFrom, upper}
 use Rattle.grammar.specs.Lines.{trim}
-use Rattle.grammar.specs.Sid.{levelInForce, levelOf, letterB, lower, ourLevel, readSid, hasFeature}
+use Rattle.grammar.specs.Sid.{levelOfSid, levelOf, letterB, lower, ourLevel, readSid, hasFeature}
 use Rattle.grammar.specs.Turns.{fixedText, ourSid}
 use Rattle.grammar.specs.Answers.{Sign, Level, level0, level1, signOf, orElse, letterSign, consO, consNext, orOffset, digitCount, signAt, readSigns, readSigns01, signsRead, signsRead01, readFs, readFs01}
-use Rattle.grammar.specs.Examples.{answered, expected}
+use Rattle.grammar.specs.Examples.{exampleAnswered, expected}
 use Rattle.grammar.specs.Levels.{answersAlone, answersWithDigit, lineEdges, sidEdges, signEdges}
 
 -- ---------------------------------------------------------------- level 0 is 01
@@ -34,7 +34,7 @@ signs-0 (suc n) (x ∷ s) = go (signs-0 n s) (signOf x)
 -- LEVEL 0 is 01's FS line.
 pub level-0 : (n : ℕ) (ln : Bytes) → readFs level0 n ln ≡ readFs01 n ln
 unfolding readFs readFs01
-level-0 n ln = go (after (text "FS ") ln)
+level-0 n ln = go (afterCapitals (text "FS ") ln)
   where
     go : (o : Option Bytes) → signsRead level0 n o ≡ signsRead01 n o
     go none = refl
@@ -65,7 +65,7 @@ signs-more v (suc n) (x ∷ s) = go (signs-more v n s) (signOf x)
 -- What 01 reads, every level reads the same.
 pub level-more : (v : Level) (n : ℕ) (ln : Bytes) (ss : List Sign) → readFs01 n ln ≡ some ss → readFs v n ln ≡ some ss
 unfolding readFs readFs01
-level-more v n ln ss h = subst (λ (o : Option (List Sign)). Kept o (readFs v n ln)) h (go (after (text "FS ") ln))
+level-more v n ln ss h = subst (λ (o : Option (List Sign)). Kept o (readFs v n ln)) h (go (afterCapitals (text "FS ") ln))
   where
     go : (o : Option Bytes) → Kept (signsRead01 n o) (signsRead v n o)
     go none = tt
@@ -98,7 +98,7 @@ signs-any v k (suc n) s = rw (sign-any v k s) (next (λ r. signs-any v k n r) (s
 -- Any number from 1 on is level 1.
 pub level-any : (v : Level) → 1 ≤ v → (n : ℕ) (ln : Bytes) → readFs v n ln ≡ readFs level1 n ln
 unfolding readFs
-level-any v k n ln = go (after (text "FS ") ln)
+level-any v k n ln = go (afterCapitals (text "FS ") ln)
   where
     go : (o : Option Bytes) → signsRead v n o ≡ signsRead level1 n o
     go none = refl
@@ -116,8 +116,8 @@ unfolding readSid
 our-level = refl
 
 -- "the lower of the two"
-pub lower-than-both : (fs : List ℕ) → (levelInForce fs ≤ ourLevel) × (levelInForce fs ≤ levelOf letterB fs)
-unfolding levelInForce
+pub lower-than-both : (fs : List ℕ) → (levelOfSid fs ≤ ourLevel) × (levelOfSid fs ≤ levelOf letterB fs)
+unfolding levelOfSid
 lower-than-both fs = go (ltb ourLevel (levelOf letterB fs)) refl
   where
     go : (c : Bool) → ltb ourLevel (levelOf letterB fs) ≡ c → (cond c ourLevel (levelOf letterB fs) ≤ ourLevel) × (cond c ourLevel (levelOf letterB fs) ≤ levelOf letterB fs)
@@ -125,8 +125,8 @@ lower-than-both fs = go (ltb ourLevel (levelOf letterB fs)) refl
     go false e = let h = ltb-false ourLevel (levelOf letterB fs) e in (omega arith, omega arith)
 
 -- "0 without B"
-pub level-without : (fs : List ℕ) → hasFeature letterB fs ≡ false → levelInForce fs ≡ level0
-unfolding levelInForce
+pub level-without : (fs : List ℕ) → hasFeature letterB fs ≡ false → levelOfSid fs ≡ level0
+unfolding levelOfSid
 level-without fs e =
     let h = ltb-false 0 (getD fs letterB 0) e in
     let z : getD fs letterB 0 ≡ 0 = omega arith in
@@ -144,6 +144,6 @@ pub signs-with-digit : (answersWithDigit level0 ≡ text "") × (answersWithDigi
 unfolding readFs signAt digitCount readFrom
 signs-with-digit = (refl, refl)
 
-pub at-level-edges : map answered (signEdges ++ (lineEdges ++ sidEdges)) ≡ map expected (signEdges ++ (lineEdges ++ sidEdges))
-unfolding trim readSid levelInForce readFs signAt digitCount readFrom
+pub at-level-edges : map exampleAnswered (signEdges ++ (lineEdges ++ sidEdges)) ≡ map expected (signEdges ++ (lineEdges ++ sidEdges))
+unfolding trim readSid levelOfSid readFs signAt digitCount readFrom
 at-level-edges = refl

@@ -16,7 +16,7 @@ use Rattle.grammar.specs.Sid.{readSid, sidNumber}
 use Rattle.grammar.specs.Turns.{Proposal, endsBlock, fixedText, formLetter, inMode, isType, notAllowed, ourBlock, ourEnd, ourFF, ourFQ, ourPrompt, ourSid, protocolError, checksumError, proposable, proposalLine, proposes, readProposal, readSummedEnd, readTurnLine, saysFF, saysFQ, sp, blockLimit, announcedLimit}
 use Rattle.grammar.specs.Answers.{OurLine, Sign, accept, decline, defer, fixedLine, fsLine, ourAnswer, ourProposal, readFs, readSigns, signAt, writeSign, written, Level, plusSign, minusSign, equalSign}
 use Rattle.grammar.proofs.Basics.{Field, Lacks, lacks-append, all-lacks, or-second}
-use Rattle.grammar.proofs.Fields.{num-field, atByte, at-field, call-field, bid-field, Ours, ours, proposal-back}
+use Rattle.grammar.proofs.Fields.{num-field, atByte, at-field, call-field, bid-field, OurProposalFair, our-proposal-fair, proposal-back}
 
 -- ---------------------------------------------------------------- read back
 
@@ -62,7 +62,7 @@ kind-of md p ln q k =
     (rw (ap readSummedEnd q ∙ not-summed (p .form) (SP ∷ tailOf p)) (rw k))))
 
 pub proposal-read : (md : Bool) (p : Proposal) → proposable p ≡ true → inMode md (p .form) ≡ true → readTurnLine md (proposalLine p) ≡ proposes p
-proposal-read md p h e = kind-of md p (proposalLine p) (proposal-starts p) (proposal-back md p (ours p h) e)
+proposal-read md p h e = kind-of md p (proposalLine p) (proposal-starts p) (proposal-back md p (our-proposal-fair p h) e)
 
 pub signs-back : (v : Level) (ss : List Sign) → readSigns v (length ss) (map writeSign ss) ≡ some ss
 unfolding signAt
@@ -138,7 +138,7 @@ seven-lacks a b c d e f g ha hb hc hd he hf hg =
     (sp-lacks e (sp f g) he
     (sp-lacks f g hf hg)))))
 
-prop-lacks : (p : Proposal) → Ours p → Lacks CR (proposalLine p)
+prop-lacks : (p : Proposal) → OurProposalFair p → Lacks CR (proposalLine p)
 unfolding proposalLine
 prop-lacks p h =
     seven-lacks (char "F" ∷ formLetter (p .form) ∷ []) (p .type ∷ []) (p .from) (p .at) (p .to) (p .bid) (writeNum decimalDigits (p .size))
@@ -153,7 +153,7 @@ prop-lacks p h =
 abbrev proposalMax : ℕ
 proposalMax = length (text "FB P ") + (callMax + 1) + (atMax + 1) + (callMax + 1) + (bidMax + 1) + decimalDigits
 
-prop-short : (p : Proposal) → Ours p → length (proposalLine p) ≤ proposalMax
+prop-short : (p : Proposal) → OurProposalFair p → length (proposalLine p) ≤ proposalMax
 unfolding proposalLine
 prop-short p h =
     let a = (call-field (p .from) (h .from)) .most in
@@ -234,7 +234,7 @@ good-line (fixedLine ourEnd) h = closed-good (fixedText ourEnd) refl (omega arit
 good-line (fixedLine protocolError) h = closed-good (fixedText protocolError) refl (omega arith) refl refl
 good-line (fixedLine checksumError) h = closed-good (fixedText checksumError) refl (omega arith) refl refl
 good-line (ourProposal p) h =
-    let o = ours p h in
+    let o = our-proposal-fair p h in
     let s = prop-short p o in
     record { whole = prop-lacks p o; short = omega arith; kept = prop-trim p; heard = prop-note p }
 good-line (ourAnswer ss) h = fs-good ss (h .0) (h .1)

@@ -2,7 +2,7 @@
 use mathlib.Core.Path.{_≡_, refl, sym, _∙_}
 use mathlib.Core.List.{List, [], _∷_, _++_}
 use Prim.Native.Nat.{ℕ}
-use Rattle.grammar.specs.Bytes.{Bytes}
+use Rattle.grammar.specs.Bytes.{Bytes, joined}
 use Rattle.grammar.specs.Scan.{Scanned, onward, scanOn}
 
 -- two portions
@@ -14,10 +14,6 @@ scan-append room s (x ∷ xs) ys = scan-append room (onward room s x) xs ys
 abbrev pub scanPortions : ℕ → Scanned → List Bytes → Scanned
 scanPortions room s [] = s
 scanPortions room s (p ∷ ps) = scanPortions room (scanOn room s p) ps
-
-abbrev pub joined : List Bytes → Bytes
-joined [] = []
-joined (p ∷ ps) = p ++ joined ps
 
 -- any portions
 pub scan-portions : (room : ℕ) (s : Scanned) (ps : List Bytes) → scanPortions room s ps ≡ scanOn room s (joined ps)

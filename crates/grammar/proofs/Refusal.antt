@@ -10,13 +10,13 @@ use lib.Dec.{eqb, leb, ltb}
 use lib.ListN.{length}
 use borrow.Author.Tests.{le-leb}
 use Rattle.grammar.specs.Bytes.{Bytes, CR, CTRLZ, SP, every, splitAt, STX, EOT}
-use Rattle.grammar.specs.Fields.{headingByte, headingMax, bodyLimit}
+use Rattle.grammar.specs.Fields.{headingByte, headingMax, bodyMax}
 use Rattle.grammar.specs.Transfers.{TransferKind, plainKind, framedKind, Content, Parsed, parse, readTransfer, sumRight, valid, besideLeast, headerNuls, offsetDigit}
 use Rattle.grammar.specs.Scan.{Scan, Scanned, atLen, atSize, atStart, atSum, bodyOf, goes, got, inBody, inData, inHead, inMark, inOff, inTitle, malformed, noRoom, onward, scan, scanByte, scanFrom, scanOn, wrongSum, isBodyByte, besideMost, lenLeast, lenMost}
 use Rattle.grammar.proofs.Basics.{snoc-cons, octet}
-use Rattle.grammar.proofs.Rest.{rest, Ok, Right, RightAt, Wrong, Longer, StepOk, rest-nil, onto-nil}
-use Rattle.grammar.proofs.Completes.{complete, completes, complete-octets, pending}
-use Rattle.grammar.proofs.Exact.{step}
+use Rattle.grammar.proofs.Rest.{rest, Ok, Right, RightAt, WrongSum, Longer, StepOk, rest-nil, onto-nil}
+use Rattle.grammar.proofs.Completes.{completing, completes, complete-octets, pending}
+use Rattle.grammar.proofs.Exact.{scan-step}
 
 -- ---------------------------------------------------------------- the statement
 
@@ -29,7 +29,7 @@ Verdict room kind (goes sc) q = (parse kind q ≡ none) × ((r : Bytes) × (ever
 Verdict room kind (got h x) q =
     (parse kind q ≡ some (record { heading = h; body = x; right = true })) × (length x ≤ room) × ((c : ℕ) (r : Bytes) → parse kind (q ++ c ∷ r) ≡ none)
 Verdict room kind malformed q = (r : Bytes) → parse kind (q ++ r) ≡ none
-Verdict room kind wrongSum q = Wrong (parse kind q) × ((c : ℕ) (r : Bytes) → parse kind (q ++ c ∷ r) ≡ none)
+Verdict room kind wrongSum q = WrongSum (parse kind q) × ((c : ℕ) (r : Bytes) → parse kind (q ++ c ∷ r) ≡ none)
 Verdict room kind noRoom q = ((r : Bytes) → Longer room (parse kind (q ++ r))) × ((r : Bytes) × (every octet r ≡ true) × Right (parse kind (q ++ r))) × (parse kind q ≡ none)
 
 -- ---------------------------------------------------------------- the way there
@@ -49,7 +49,7 @@ held-snoc : (kind : TransferKind) (sc : Scan) (q : Bytes) (b : ℕ) (r : Bytes) 
 held-snoc kind sc q b r h = ap (parse kind) (snoc-cons q r b) ∙ h (b ∷ r)
 
 pub reach-step : (room : ℕ) (kind : TransferKind) (s : Scanned) (q : Bytes) (b : ℕ) → Reach room kind s q → Reach room kind (onward room s b) (q ++ (b ∷ []))
-reach-step room kind (goes sc) q b h = go (scanByte room sc b) (step room sc b (h .1) (h .2))
+reach-step room kind (goes sc) q b h = go (scanByte room sc b) (scan-step room sc b (h .1) (h .2))
   where
     go : (s : Scanned) → StepOk room s sc b → Reach room kind s (q ++ (b ∷ []))
     go (goes sc′) k = (λ r. held-snoc kind sc q b r (h .0) ∙ k .0 r, k .1, k .2)
@@ -80,7 +80,7 @@ reach room kind q sc e = subst (λ (s : Scanned). Reach room kind s q) e (reach-
 
 -- from any bytes that brought the scan here (what a session's invariant holds), one byte more
 pub exact-at : (room : ℕ) (kind : TransferKind) (q : Bytes) (sc : Scan) → Reach room kind (goes sc) q → (b : ℕ) → Verdict room kind (scanByte room sc b) (q ++ (b ∷ []))
-exact-at room kind q sc h b = go (scanByte room sc b) (step room sc b (h .1) (h .2))
+exact-at room kind q sc h b = go (scanByte room sc b) (scan-step room sc b (h .1) (h .2))
   where
     whole : parse kind (q ++ (b ∷ [])) ≡ rest sc (b ∷ [])
     whole = h .0 (b ∷ [])
@@ -91,20 +91,20 @@ exact-at room kind q sc h b = go (scanByte room sc b) (step room sc b (h .1) (h 
     go : (s : Scanned) → StepOk room s sc b → Verdict room kind s (q ++ (b ∷ []))
     go (goes sc′) k = (
       whole ∙ k .0 [] ∙ rest-nil sc′,
-      (complete sc′, complete-octets sc′, subst (RightAt (length (bodyOf sc′) + pending sc′)) (sym (then (complete sc′) ∙ k .0 (complete sc′))) (completes sc′ (k .1))),
+      (completing sc′, complete-octets sc′, subst (RightAt (length (bodyOf sc′) + pending sc′)) (sym (then (completing sc′) ∙ k .0 (completing sc′))) (completes sc′ (k .1))),
     )
     go (got t x) k = (whole ∙ k .0, k .1, λ c r. then (c ∷ r) ∙ k .2 c r)
     go malformed k = λ r. then r ∙ k r
-    go wrongSum k = (subst Wrong (sym whole) (k .0), λ c r. then (c ∷ r) ∙ k .1 c r)
+    go wrongSum k = (subst WrongSum (sym whole) (k .0), λ c r. then (c ∷ r) ∙ k .1 c r)
     go noRoom k = (λ r. subst (Longer room) (sym (then r)) (k .0 r), (k .1 .0, k .1 .1, subst Right (sym (then (k .1 .0))) (k .1 .2)), whole ∙ k .2)
 
-pub exact : (room : ℕ) (kind : TransferKind) (q : Bytes) (sc : Scan) → scan room kind q ≡ goes sc → (b : ℕ) → Verdict room kind (scanByte room sc b) (q ++ (b ∷ []))
-exact room kind q sc e b = exact-at room kind q sc (reach room kind q sc e) b
+pub exact-verdict : (room : ℕ) (kind : TransferKind) (q : Bytes) (sc : Scan) → scan room kind q ≡ goes sc → (b : ℕ) → Verdict room kind (scanByte room sc b) (q ++ (b ∷ []))
+exact-verdict room kind q sc e b = exact-at room kind q sc (reach room kind q sc e) b
 
 -- 8, in both directions
 pub exact-8 : (room : ℕ) (kind : TransferKind) (q : Bytes) (sc : Scan) → scan room kind q ≡ goes sc → (b : ℕ)
     → (scanByte room sc b ≡ malformed → (r : Bytes) → parse kind (q ++ b ∷ r) ≡ none) × (((r : Bytes) → parse kind (q ++ b ∷ r) ≡ none) → scanByte room sc b ≡ malformed)
-exact-8 room kind q sc e b = (λ w r. sym (ap (parse kind) (snoc-cons q r b)) ∙ (subst (λ (s : Scanned). Verdict room kind s (q ++ (b ∷ []))) w (exact room kind q sc e b)) r, λ n. go n (scanByte room sc b) (exact room kind q sc e b))
+exact-8 room kind q sc e b = (λ w r. sym (ap (parse kind) (snoc-cons q r b)) ∙ (subst (λ (s : Scanned). Verdict room kind s (q ++ (b ∷ []))) w (exact-verdict room kind q sc e b)) r, λ n. go n (scanByte room sc b) (exact-verdict room kind q sc e b))
   where
     at : ((r : Bytes) → parse kind (q ++ b ∷ r) ≡ none) → (r : Bytes) → parse kind ((q ++ (b ∷ [])) ++ r) ≡ none
     at n r = ap (parse kind) (snoc-cons q r b) ∙ n r
@@ -113,7 +113,7 @@ exact-8 room kind q sc e b = (λ w r. sym (ap (parse kind) (snoc-cons q r b)) �
     go n (goes sc′) k = absurd (subst (RightAt (length (bodyOf sc′) + pending sc′)) (at n (k .1 .0)) (k .1 .2))
     go n (got t x) k = let z : _≡_ {A = Option Parsed} none (some (record { heading = t; body = x; right = true })) = sym (n []) ∙ k .0 in cc
     go n malformed k = refl
-    go n wrongSum k = absurd (subst Wrong (n []) (k .0))
+    go n wrongSum k = absurd (subst WrongSum (n []) (k .0))
     go n noRoom k = absurd (subst Right (at n (k .1 .0)) (k .1 .2))
 
 -- what the log's reader of whole transfers says after each byte: nothing, until the scan has got it
@@ -124,38 +124,38 @@ contentOf malformed = none
 contentOf wrongSum = none
 contentOf noRoom = none
 
-wrong-none : (o : Option Parsed) → Wrong o → valid o ≡ none
+wrong-none : (o : Option Parsed) → WrongSum o → valid o ≡ none
 wrong-none none w = refl
 wrong-none (some p) w = rw w
 
-pub read-as : (room : ℕ) (kind : TransferKind) (q : Bytes) (sc : Scan) → room ≤ bodyLimit → Reach room kind (goes sc) q → (b : ℕ)
+pub read-as : (room : ℕ) (kind : TransferKind) (q : Bytes) (sc : Scan) → room ≤ bodyMax → Reach room kind (goes sc) q → (b : ℕ)
     → readTransfer kind (q ++ (b ∷ [])) ≡ contentOf (scanByte room sc b)
 unfolding readTransfer
 read-as room kind q sc l h b = go (scanByte room sc b) (exact-at room kind q sc h b)
   where
     go : (s : Scanned) → Verdict room kind s (q ++ (b ∷ [])) → valid (parse kind (q ++ (b ∷ []))) ≡ contentOf s
     go (goes sc′) k = rw (k .0)
-    go (got t x) k = let m = k .1 in rw (k .0) (rw (le-leb (length x) bodyLimit (omega arith)))
+    go (got t x) k = let m = k .1 in rw (k .0) (rw (le-leb (length x) bodyMax (omega arith)))
     go malformed k = rw (ap (parse kind) (sym (append-nil (q ++ (b ∷ [])))) ∙ k [])
     go wrongSum k = wrong-none (parse kind (q ++ (b ∷ []))) (k .0)
     go noRoom k = rw (k .2)
 
 -- a valid transfer begins with the bytes at which the scan goes on, but where a block's n already promises more than 65,535 bytes
-abbrev pub Heeded : Option Content → Type 0
-Heeded none = ⊥
-Heeded (some h) = Unit {0}
+abbrev pub IsContent : Option Content → Type 0
+IsContent none = ⊥
+IsContent (some h) = Unit {0}
 
-right-heeded : (n : ℕ) (o : Option Parsed) → n ≤ bodyLimit → RightAt n o → Heeded (valid o)
+right-heeded : (n : ℕ) (o : Option Parsed) → n ≤ bodyMax → RightAt n o → IsContent (valid o)
 right-heeded n none l h = h
 right-heeded n (some p) l h =
     let m = h .1 in
-    rw (h .0) (rw (le-leb (length (p .body)) bodyLimit (omega arith)) tt)
+    rw (h .0) (rw (le-leb (length (p .body)) bodyMax (omega arith)) tt)
 
 pub goes-valid : (room : ℕ) (kind : TransferKind) (q : Bytes) (sc sc′ : Scan) → scan room kind q ≡ goes sc → (b : ℕ) → scanByte room sc b ≡ goes sc′
-    → length (bodyOf sc′) + pending sc′ ≤ bodyLimit → (r : Bytes) × (every octet r ≡ true) × Heeded (readTransfer kind ((q ++ (b ∷ [])) ++ r))
+    → length (bodyOf sc′) + pending sc′ ≤ bodyMax → (r : Bytes) × (every octet r ≡ true) × IsContent (readTransfer kind ((q ++ (b ∷ [])) ++ r))
 unfolding readTransfer
 goes-valid room kind q sc sc′ e b w l =
-    let k = subst (λ (s : Scanned). Verdict room kind s (q ++ (b ∷ []))) w (exact room kind q sc e b) in
+    let k = subst (λ (s : Scanned). Verdict room kind s (q ++ (b ∷ []))) w (exact-verdict room kind q sc e b) in
     (k .1 .0, k .1 .1, right-heeded (length (bodyOf sc′) + pending sc′) (parse kind ((q ++ (b ∷ [])) ++ k .1 .0)) l (k .1 .2))
 
 -- ---------------------------------------------------------------- byte by byte = whole
@@ -170,8 +170,8 @@ asGot (some p) = got (p .heading) (p .body)
 gone : (h x : Bytes) (o : Option Parsed) → o ≡ none → o ≡ right h x → ⊥
 gone h x o p q = let z : none ≡ right h x = sym p ∙ q in let y : _≡_ {A = ℕ} 0 1 = cc in omega arith
 
-not-wrong : (h x : Bytes) (o : Option Parsed) → Wrong o → o ≡ right h x → ⊥
-not-wrong h x o w q = let z : true ≡ false = subst Wrong q w in let y : _≡_ {A = ℕ} 0 1 = cc in omega arith
+not-wrong : (h x : Bytes) (o : Option Parsed) → WrongSum o → o ≡ right h x → ⊥
+not-wrong h x o w q = let z : true ≡ false = subst WrongSum q w in let y : _≡_ {A = ℕ} 0 1 = cc in omega arith
 
 -- the last byte is the one at which the whole reader is done
 at-got : (room : ℕ) (bs : Bytes) (sc : Scan) (b : ℕ) (t y h x : Bytes) → StepOk room (got t y) sc b → rest sc (b ∷ bs) ≡ right h x → scanOn room (got t y) bs ≡ got h x
@@ -186,7 +186,7 @@ at-bad9 room (c ∷ bs) sc b h x n e = gone h x (rest sc (b ∷ c ∷ bs)) (n .1
 run-on : (room : ℕ) (bs : Bytes) (sc : Scan) (h x : Bytes) → Ok sc → length (bodyOf sc) ≤ room → rest sc bs ≡ right h x → length x ≤ room
     → scanOn room (goes sc) bs ≡ got h x
 run-on room [] sc h x k l e m = absurd (gone h x (rest sc []) (rest-nil sc) e)
-run-on room (b ∷ bs) sc h x k l e m = go (scanByte room sc b) (step room sc b k l) (λ sc′ o n q. run-on room bs sc′ h x o n q m)
+run-on room (b ∷ bs) sc h x k l e m = go (scanByte room sc b) (scan-step room sc b k l) (λ sc′ o n q. run-on room bs sc′ h x o n q m)
   where
     go : (s : Scanned) → StepOk room s sc b
         → ((sc′ : Scan) → Ok sc′ → length (bodyOf sc′) ≤ room → rest sc′ bs ≡ right h x → scanOn room (goes sc′) bs ≡ got h x)
@@ -205,7 +205,7 @@ whole-got room kind q h x e l = let s = from room kind in run-on room q (scanFro
 run-ends : (bs : Bytes) (sc : Scan) (p : Parsed) → Ok sc → length (bodyOf sc) ≤ length (p .body) → rest sc bs ≡ some p
     → (c : ℕ) (r : Bytes) → rest sc (bs ++ c ∷ r) ≡ none
 run-ends [] sc p k l e c r = let z : none ≡ some p = sym (rest-nil sc) ∙ e in cc
-run-ends (b ∷ bs) sc p k l e c r = go (scanByte (length (p .body)) sc b) (step (length (p .body)) sc b k l) (λ sc′ o n q. run-ends bs sc′ p o n q c r)
+run-ends (b ∷ bs) sc p k l e c r = go (scanByte (length (p .body)) sc b) (scan-step (length (p .body)) sc b k l) (λ sc′ o n q. run-ends bs sc′ p o n q c r)
   where
     at-end : (bs : Bytes) → ((d : ℕ) (u : Bytes) → rest sc (b ∷ d ∷ u) ≡ none) → rest sc (b ∷ (bs ++ c ∷ r)) ≡ none
     at-end [] n = n c r
@@ -268,12 +268,12 @@ exact-10 room (atSum h x) b = no-ten (sumRight x b) (got h x) wrongSum refl refl
 
 -- 9: exactly where the transfer is whole, but for its checksum
 pub exact-9 : (room : ℕ) (kind : TransferKind) (q : Bytes) (sc : Scan) → scan room kind q ≡ goes sc → (b : ℕ)
-    → (scanByte room sc b ≡ wrongSum → Wrong (parse kind (q ++ (b ∷ [])))) × (Wrong (parse kind (q ++ (b ∷ []))) → scanByte room sc b ≡ wrongSum)
-exact-9 room kind q sc e b = (λ w. (subst (λ (s : Scanned). Verdict room kind s (q ++ (b ∷ []))) w (exact room kind q sc e b)) .0, λ n. go n (scanByte room sc b) (exact room kind q sc e b))
+    → (scanByte room sc b ≡ wrongSum → WrongSum (parse kind (q ++ (b ∷ [])))) × (WrongSum (parse kind (q ++ (b ∷ []))) → scanByte room sc b ≡ wrongSum)
+exact-9 room kind q sc e b = (λ w. (subst (λ (s : Scanned). Verdict room kind s (q ++ (b ∷ []))) w (exact-verdict room kind q sc e b)) .0, λ n. go n (scanByte room sc b) (exact-verdict room kind q sc e b))
   where
-    go : Wrong (parse kind (q ++ (b ∷ []))) → (s : Scanned) → Verdict room kind s (q ++ (b ∷ [])) → s ≡ wrongSum
-    go n (goes sc′) k = absurd (subst Wrong (k .0) n)
+    go : WrongSum (parse kind (q ++ (b ∷ []))) → (s : Scanned) → Verdict room kind s (q ++ (b ∷ [])) → s ≡ wrongSum
+    go n (goes sc′) k = absurd (subst WrongSum (k .0) n)
     go n (got t x) k = absurd (not-wrong t x (parse kind (q ++ (b ∷ []))) n (k .0))
-    go n malformed k = absurd (subst Wrong (ap (parse kind) (sym (append-nil (q ++ (b ∷ [])))) ∙ k []) n)
+    go n malformed k = absurd (subst WrongSum (ap (parse kind) (sym (append-nil (q ++ (b ∷ [])))) ∙ k []) n)
     go n wrongSum k = refl
-    go n noRoom k = absurd (subst Wrong (k .2) n)
+    go n noRoom k = absurd (subst WrongSum (k .2) n)

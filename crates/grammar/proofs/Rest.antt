@@ -103,9 +103,9 @@ Longer n none = Unit {0}
 Longer n (some p) = n < length (p .body)
 
 -- right in form, with a wrong checksum
-abbrev pub Wrong : Option Parsed → Type 0
-Wrong none = ⊥
-Wrong (some p) = p .right ≡ false
+abbrev pub WrongSum : Option Parsed → Type 0
+WrongSum none = ⊥
+WrongSum (some p) = p .right ≡ false
 
 -- what a step of the scan must say of what is still to come
 abbrev pub StepOk : ℕ → Scanned → Scan → ℕ → Type 0
@@ -113,5 +113,5 @@ StepOk room (goes sc′) sc b = ((r : Bytes) → rest sc (b ∷ r) ≡ rest sc�
 StepOk room (got h x) sc b =
     (rest sc (b ∷ []) ≡ some (record { heading = h; body = x; right = true })) × (length x ≤ room) × ((c : ℕ) (r : Bytes) → rest sc (b ∷ c ∷ r) ≡ none)
 StepOk room malformed sc b = (r : Bytes) → rest sc (b ∷ r) ≡ none
-StepOk room wrongSum sc b = Wrong (rest sc (b ∷ [])) × ((c : ℕ) (r : Bytes) → rest sc (b ∷ c ∷ r) ≡ none)
+StepOk room wrongSum sc b = WrongSum (rest sc (b ∷ [])) × ((c : ℕ) (r : Bytes) → rest sc (b ∷ c ∷ r) ≡ none)
 StepOk room noRoom sc b = ((r : Bytes) → Longer room (rest sc (b ∷ r))) × ((r : Bytes) × (every octet r ≡ true) × Right (rest sc (b ∷ r))) × (rest sc (b ∷ []) ≡ none)

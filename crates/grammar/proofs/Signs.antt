@@ -11,7 +11,7 @@ use lib.ListN.{length, take, drop, take-append-drop}
 use borrow.Author.Tests.{eq-eqb, ne-eqb, eqb-true, eqb-false, le-leb, leb-true, le-ltb, ltb-false}
 use Rattle.grammar.specs.Bytes.{Bytes, SP, every}
 use Rattle.grammar.specs.Ascii.{text, char}
-use Rattle.grammar.specs.Fields.{upper, after, digit, readFrom, sized, smallEnd, toCapital, digitsEnd}
+use Rattle.grammar.specs.Fields.{upper, afterCapitals, digit, readFrom, sized, smallEnd, toCapital, digitsEnd}
 use Rattle.grammar.specs.Answers.{Sign, accept, decline, defer, Level, level1, signOf, orElse, letterSign, signByte, isOffset, offsetDigits, digitCount, followed, offsetRead, orOffset, signAt, consO, consNext, readSigns, signsRead, readFs, plusSign, minusSign, equalSign}
 use Rattle.grammar.specs.Signs.{Sign01, plus, minus, equal, Letter, yes, held, no, rejected, later, failed, Mark, bang, offset, Offset, Spells, of01, letter, whole, remainder, Says, nothing, more, FsForm}
 use Rattle.grammar.proofs.Basics.{and2, by-test, no-both, or-right, or-second}
@@ -125,7 +125,7 @@ says-read v ss w (more s u ts r p h) = rw (spelt-read v s u p r (says-starts v t
 pub fs-read : (v : Level) (ln : Bytes) (ss : List Sign) → FsForm v ln ss → readFs v (length ss) ln ≡ some ss
 unfolding readFs
 fs-read v ln ss h =
-    ap (λ (l : Bytes). signsRead v (length ss) (after (text "FS ") l)) (h .line) ∙ rw (h .f, h .s) (says-read v ss (h .rest) (h .says))
+    ap (λ (l : Bytes). signsRead v (length ss) (afterCapitals (text "FS ") l)) (h .line) ∙ rw (h .f, h .s) (says-read v ss (h .rest) (h .says))
 
 -- ---------------------------------------------------------------- and nothing else is
 

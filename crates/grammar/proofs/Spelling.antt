@@ -13,15 +13,15 @@ use Rattle.grammar.specs.Turns.{Proposal, readProposal, sevenRead, field
 use Rattle.grammar.specs.Transfers.{Parsed, readPlain, titleRead, bodyRead, spacesCR}
 
 -- w stands in l, byte for byte
-abbrev pub Stands : Bytes → Bytes → Type 0
-Stands w l = (u : Bytes) × (v : Bytes) × (l ≡ u ++ (w ++ v))
+abbrev pub StandsIn : Bytes → Bytes → Type 0
+StandsIn w l = (u : Bytes) × (v : Bytes) × (l ≡ u ++ (w ++ v))
 
 -- the same, for every word of a list
 abbrev AllStand : List Bytes → Bytes → Type 0
 AllStand [] l = Unit {0}
-AllStand (w ∷ ws) l = Stands w l × AllStand ws l
+AllStand (w ∷ ws) l = StandsIn w l × AllStand ws l
 
-stands-later : (x : ℕ) (w l : Bytes) → Stands w l → Stands w (x ∷ l)
+stands-later : (x : ℕ) (w l : Bytes) → StandsIn w l → StandsIn w (x ∷ l)
 stands-later x w l s = (x ∷ s .0, s .1, ap (λ (t : Bytes). x ∷ t) (s .2))
 
 all-later : (x : ℕ) (ws : List Bytes) (l : Bytes) → AllStand ws l → AllStand ws (x ∷ l)
@@ -55,9 +55,9 @@ words-in (x ∷ l) = go (eqb x SP) (starts l) (words l) (words-in l)
 -- the fields of a proposal as read, where there is one
 abbrev pub Spelled : Option Proposal → Bytes → Type 0
 Spelled none l = Unit {0}
-Spelled (some p) l = Stands (p .from) l × Stands (p .at) l × Stands (p .to) l × Stands (p .bid) l
+Spelled (some p) l = StandsIn (p .from) l × StandsIn (p .at) l × StandsIn (p .to) l × StandsIn (p .bid) l
 
-fields-spelled : (o : Option Form) (t : Option ℕ) (a b c d e l : Bytes) → Stands a l → Stands b l → Stands c l → Stands d l
+fields-spelled : (o : Option Form) (t : Option ℕ) (a b c d e l : Bytes) → StandsIn a l → StandsIn b l → StandsIn c l → StandsIn d l
     → Spelled (fieldsRead o t a b c d e) l
 fields-spelled none t a b c d e l ha hb hc hd = tt
 fields-spelled (some f) none a b c d e l ha hb hc hd = tt

@@ -8,7 +8,7 @@ use lib.Dec.{eqb}
 use borrow.Author.Tests.{eqb-true}
 use Rattle.grammar.specs.Bytes.{Bytes, SP, isSome, same}
 use Rattle.grammar.specs.Ascii.{text, char}
-use Rattle.grammar.specs.Fields.{upper, after, hexDigit, hexPair, twoHex, hexBase}
+use Rattle.grammar.specs.Fields.{upper, afterCapitals, hexDigit, hexPair, twoHex, hexBase}
 use Rattle.grammar.specs.Turns.{Proposal, saysFF, saysFQ, endsBlock, endsSummed, orNotAllowed, readProposal, readSummedEnd, summedOr, twoHexRead, readTurnLine}
 use Rattle.grammar.proofs.Basics.{no-both}
 
@@ -32,7 +32,7 @@ summed-read md f a b x y e h k = simp (e, h, k)
 
 -- ---------------------------------------------------------------- and no other
 
-after-is : (w ln r : Bytes) → after w ln ≡ some r → map upper ln ≡ w ++ map upper r
+after-is : (w ln r : Bytes) → afterCapitals w ln ≡ some r → map upper ln ≡ w ++ map upper r
 after-is [] ln r e = ap (map upper) (some-is e)
   where
     some-is : some ln ≡ some r → ln ≡ r
@@ -40,7 +40,7 @@ after-is [] ln r e = ap (map upper) (some-is e)
 after-is (x ∷ w) [] r e = cc
 after-is (x ∷ w) (y ∷ ln) r e = go (eqb (upper y) x) refl e (after-is w ln r)
   where
-    go : (c : Bool) → eqb (upper y) x ≡ c → cond c (after w ln) none ≡ some r → (after w ln ≡ some r → map upper ln ≡ w ++ map upper r)
+    go : (c : Bool) → eqb (upper y) x ≡ c → cond c (afterCapitals w ln) none ≡ some r → (afterCapitals w ln ≡ some r → map upper ln ≡ w ++ map upper r)
         → upper y ∷ map upper ln ≡ x ∷ (w ++ map upper r)
     go true f e more = ap (λ (z : ℕ). z ∷ map upper ln) (eqb-true (upper y) x f) ∙ ap (λ (l : Bytes). x ∷ l) (more e)
     go false f e more = cc
@@ -62,9 +62,9 @@ two-is ln (a ∷ b ∷ c ∷ cs) h l e = nothing e
 
 end-is : (ln : Bytes) (h : ℕ) → readSummedEnd ln ≡ some h → SummedForm ln h
 unfolding readSummedEnd
-end-is ln h e = go (after (text "F> ") ln) refl e
+end-is ln h e = go (afterCapitals (text "F> ") ln) refl e
   where
-    go : (o : Option Bytes) → after (text "F> ") ln ≡ o → twoHexRead o ≡ some h → SummedForm ln h
+    go : (o : Option Bytes) → afterCapitals (text "F> ") ln ≡ o → twoHexRead o ≡ some h → SummedForm ln h
     go none f e = nothing e
     go (some r) f e = two-is ln r h (after-is (text "F> ") ln r f) e
 

@@ -10,7 +10,7 @@ use lib.ListN.{length, take, drop, length-take, length-drop, take-append-drop}
 use borrow.Author.Tests.{eq-eqb, eqb-true, eqb-false}
 use Rattle.grammar.specs.Bytes.{Bytes, CR, CTRLZ, every, byteValues, NUL, STX, EOT}
 use Rattle.grammar.specs.Ascii.{char}
-use Rattle.grammar.specs.Fields.{Form, file, headingByte, isBody, isHeading, message, notCtrlZ, plain, headingMax, bodyLimit}
+use Rattle.grammar.specs.Fields.{Form, file, headingByte, isBody, isHeading, message, notCtrlZ, plain, headingMax, bodyMax}
 use Rattle.grammar.specs.Transfers.{kindOf, blockSize, blocks, blocksOut, checksum, consData, parse, readFramed, readPlain, readTransfer, sendable, byteSum, sumRight, valid, writeFramed, writePlain, writeTransfer, dataMax, besideLeast}
 use Rattle.grammar.proofs.Basics.{and2, Lacks, all-lacks, split-mid, field-is}
 use Rattle.grammar.proofs.Rest.{onto, onto-nil}
@@ -79,16 +79,16 @@ plain-back t x k e =
 
 sent-back : (h x : Bytes) → isHeading h && isBody message x ≡ true → valid (readFramed (writeFramed h x)) ≡ some (record { heading = h; body = x })
 sent-back h x e =
-    let p = and2 (isHeading h) (leb (length x) bodyLimit && true) e in
-    let q = and2 (leb (length x) bodyLimit) true (p .1) in
+    let p = and2 (isHeading h) (leb (length x) bodyMax && true) e in
+    let q = and2 (leb (length x) bodyMax) true (p .1) in
     rw (framed-back h x (p .0)) (rw (q .0))
 
 -- THE ROUND TRIP: every transfer that we write is read back, in every form
 pub transfer-back : (f : Form) (h x : Bytes) → sendable f h x ≡ true → readTransfer (kindOf f) (writeTransfer (kindOf f) h x) ≡ some (record { heading = h; body = x })
 unfolding readTransfer writeTransfer parse
 transfer-back plain h x e =
-    let p = and2 (isHeading h) (leb (length x) bodyLimit && every notCtrlZ x) e in
-    let q = and2 (leb (length x) bodyLimit) (every notCtrlZ x) (p .1) in
+    let p = and2 (isHeading h) (leb (length x) bodyMax && every notCtrlZ x) e in
+    let q = and2 (leb (length x) bodyMax) (every notCtrlZ x) (p .1) in
     rw (plain-back h x (p .0) (q .1)) (rw (q .0))
 transfer-back message h x e = sent-back h x e
 transfer-back file h x e = sent-back h x e

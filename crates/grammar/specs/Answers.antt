@@ -8,7 +8,7 @@ use lib.ListN.{take, drop}
 use Rattle.grammar.specs.Bytes.{Bytes, isSome}
 use Rattle.grammar.specs.Ascii.{text, char}
 use Rattle.grammar.specs.Refusals.{badAnswer, lineNotAllowed}
-use Rattle.grammar.specs.Fields.{after, upper, digit, sized, readFrom}
+use Rattle.grammar.specs.Fields.{afterCapitals, upper, digit, sized, readFrom}
 use Rattle.grammar.specs.Turns.{FixedLine, fixedText, Proposal, proposalLine}
 
 -- "`+` accept, `-` decline, `=` defer"
@@ -52,7 +52,7 @@ signsRead01 n (some r) = readSigns01 n r
 
 -- "FS, one space, one sign a proposal", to n proposals: 01's own reader. What is read at level 0 is shown to be this (proofs/Levels).
 unfoldable pub readFs01 : ℕ → Bytes → Option (List Sign)
-readFs01 n ln = signsRead01 n (after (text "FS ") ln)
+readFs01 n ln = signsRead01 n (afterCapitals (text "FS ") ln)
 
 -- ---------------------------------------------------------------- the signs of a level
 
@@ -130,11 +130,11 @@ signsRead v n (some r) = readSigns v n r
 
 -- "FS, one space, one sign a proposal", to n proposals, at the level v
 unfoldable pub readFs : Level → ℕ → Bytes → Option (List Sign)
-readFs v n ln = signsRead v n (after (text "FS ") ln)
+readFs v n ln = signsRead v n (afterCapitals (text "FS ") ln)
 
 -- "Where FS is awaited, a wrong line that begins with FS gets 7 and any other 5"; "a seventh digit, or none, gets 7"
 abbrev pub fsNumber : Level → ℕ → Bytes → ℕ
-fsNumber v n ln = cond (isSome (readFs v n ln)) 0 (cond (isSome (after (text "FS") ln)) badAnswer lineNotAllowed)
+fsNumber v n ln = cond (isSome (readFs v n ln)) 0 (cond (isSome (afterCapitals (text "FS") ln)) badAnswer lineNotAllowed)
 
 -- ---------------------------------------------------------------- written
 

@@ -6,7 +6,7 @@ use mathlib.Core.List.{List, [], _∷_, _++_}
 use Prim.Native.Nat.{ℕ, _+_, _%_, _≤_, _<_}
 use lib.Dec.{eqb}
 use lib.ListN.{length}
-use Rattle.grammar.specs.Bytes.{Bytes, CR, SP, CTRLZ, NUL, SOH, STX, EOT, byteValues}
+use Rattle.grammar.specs.Bytes.{Bytes, CR, SP, CTRLZ, NUL, SOH, STX, EOT, byteValues, joined}
 use Rattle.grammar.specs.Ascii.{text, char}
 use Rattle.grammar.specs.Fields.{Form, plain, message, file, toFirst, isSize, readFrom}
 use Rattle.grammar.specs.Turns.{Proposal}
@@ -52,10 +52,6 @@ abbrev pub InBlocks : List Bytes → Type 0
 InBlocks [] = Unit {0}
 InBlocks (d ∷ []) = (1 ≤ length d) × (length d ≤ wholeBlock)
 InBlocks (d ∷ e ∷ ds) = (length d ≡ wholeBlock) × InBlocks (e ∷ ds)
-
-abbrev pub joined : List Bytes → Bytes
-joined [] = []
-joined (d ∷ ds) = d ++ joined ds
 
 -- "n = 00 means 256."
 abbrev pub blockNumber : Bytes → ℕ

@@ -1,7 +1,7 @@
 -- Lists of bytes, and the few tests on them that every rule of 01 is made of.
 use mathlib.Core.Bool.{Bool, true, false, cond, _&&_}
 use mathlib.Core.Option.{Option, none, some}
-use mathlib.Core.List.{List, [], _∷_}
+use mathlib.Core.List.{List, [], _∷_, _++_}
 use Prim.Native.Nat.{ℕ, _*_}
 use lib.Dec.{eqb, ltb}
 
@@ -93,3 +93,13 @@ splitAt c (x ∷ xs) = cond (eqb x c) (some ([], xs)) (before x (splitAt c xs))
 abbrev pub isSome {ℓ} : {A : Type ℓ} → Option A → Bool
 isSome none = false
 isSome (some x) = true
+
+-- Texts, one after another.
+abbrev pub joined : List Bytes → Bytes
+joined [] = []
+joined (x ∷ xs) = x ++ joined xs
+
+-- A test's answer as a byte: 1 where it holds.
+abbrev pub flag : Bool → ℕ
+flag true = 1
+flag false = 0

@@ -10,7 +10,7 @@ use Rattle.grammar.specs.Bytes.{Bytes}
 use Rattle.grammar.specs.Ascii.{text}
 use Rattle.grammar.specs.Fields.{Form, file, message, plain, sameBid}
 use Rattle.grammar.specs.Lines.{trim, isComment, isPrompt, lineByte, lineByteNumber, LineRead, line, refused, unfinished, lineSteps}
-use Rattle.grammar.specs.Sid.{framed, levelInForce, readSid, sidNumber}
+use Rattle.grammar.specs.Sid.{framed, levelOfSid, readSid, sidNumber}
 use Rattle.grammar.specs.Turns.{TurnLine, endsBlock, endsSummed, notAllowed, ourBlock, proposes, readTurnLine, saysFF, saysFQ, turnLineNumber}
 use Rattle.grammar.specs.Answers.{Sign, accept, decline, defer, fsNumber, readFs, Level, level0}
 use Rattle.grammar.specs.Transfers.{kindOf, Content, readTransfer, writeTransfer}
@@ -55,7 +55,7 @@ fsAnswer n (some ss) = signs ss
 
 abbrev pub levelAnswer : Option (List ℕ) → Answer
 levelAnswer none = number (sidNumber none)
-levelAnswer (some fs) = isLevel (levelInForce fs)
+levelAnswer (some fs) = isLevel (levelOfSid fs)
 
 abbrev pub itself : ℕ → ℕ
 itself n = n
@@ -78,8 +78,8 @@ pub record Example : Type 0 where
   pub asked : Question
   pub told : Answer
 
-abbrev pub answered : Example → Answer
-answered e = answer (e .asked)
+abbrev pub exampleAnswered : Example → Answer
+exampleAnswered e = answer (e .asked)
 
 abbrev pub expected : Example → Answer
 expected e = e .told

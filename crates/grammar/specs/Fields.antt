@@ -74,12 +74,12 @@ afterDot (x ∷ xs) = cond (eqb x (char ".")) xs (afterDot xs)
 abbrev pub atMax : ℕ
 atMax = 38
 
-abbrev pub afterDotMax : ℕ
-afterDotMax = 31
+abbrev pub hierarchyMax : ℕ
+hierarchyMax = 31
 
 -- "At is one to several parts of 1 to 6 such bytes joined by `.`"
 unfoldable pub isAt : Bytes → Bool
-isAt w = allCalls (parts w) && (leb (length w) atMax && leb (length (afterDot w)) afterDotMax)
+isAt w = allCalls (parts w) && (leb (length w) atMax && leb (length (afterDot w)) hierarchyMax)
 
 -- ---------------------------------------------------------------- BID
 
@@ -117,11 +117,11 @@ bodyFair message x = true
 bodyFair file x = true
 
 -- "A body has at most 65,535 bytes"
-abbrev pub bodyLimit : ℕ
-bodyLimit = 65535
+abbrev pub bodyMax : ℕ
+bodyMax = 65535
 
 abbrev pub isBody : Form → Bytes → Bool
-isBody f x = leb (length x) bodyLimit && bodyFair f x
+isBody f x = leb (length x) bodyMax && bodyFair f x
 
 -- ---------------------------------------------------------------- letters, words and numbers of a line
 
@@ -143,10 +143,10 @@ unfoldable pub sameBid : Bytes → Bytes → Bool
 sameBid v w = same (map upper v) (map upper w)
 
 -- What follows the capitals w, taken in either case.
-abbrev pub after : Bytes → Bytes → Option Bytes
-after [] ys = some ys
-after (x ∷ xs) [] = none
-after (x ∷ xs) (y ∷ ys) = cond (eqb (upper y) x) (after xs ys) none
+abbrev pub afterCapitals : Bytes → Bytes → Option Bytes
+afterCapitals [] ys = some ys
+afterCapitals (x ∷ xs) [] = none
+afterCapitals (x ∷ xs) (y ∷ ys) = cond (eqb (upper y) x) (afterCapitals xs ys) none
 
 -- The line begins with a byte other than a space.
 abbrev pub starts : Bytes → Bool

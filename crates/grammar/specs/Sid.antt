@@ -8,7 +8,7 @@ use lib.ListN.{getD, set, replicate}
 use Rattle.grammar.specs.Bytes.{Bytes, SP, null, every, same, splitAt}
 use Rattle.grammar.specs.Ascii.{text, char}
 use Rattle.grammar.specs.Refusals.{notSid, noForwarding}
-use Rattle.grammar.specs.Fields.{upper, after, digit, decimalBase}
+use Rattle.grammar.specs.Fields.{upper, afterCapitals, digit, decimalBase}
 
 -- ---------------------------------------------------------------- the feature set
 
@@ -111,7 +111,7 @@ sidRead (some r) = authorRead (splitAt (char "-") r)
 
 -- "SID = `[` author `-` (data `-`)? features `$`? `]`.": the features of a valid one
 unfoldable pub readSid : Bytes → Option (List ℕ)
-readSid ln = sidRead (after (text "[") ln)
+readSid ln = sidRead (afterCapitals (text "[") ln)
 
 -- "first line isn't a valid SID": 3; "partner's SID has no F": 4
 abbrev pub sidNumber : Option (List ℕ) → ℕ
@@ -136,5 +136,5 @@ abbrev pub lower : ℕ → ℕ → ℕ
 lower a b = cond (ltb a b) a b
 
 -- "the level in force is the lower of the two, 0 without B"
-unfoldable pub levelInForce : List ℕ → ℕ
-levelInForce fs = lower ourLevel (levelOf letterB fs)
+unfoldable pub levelOfSid : List ℕ → ℕ
+levelOfSid fs = lower ourLevel (levelOf letterB fs)

@@ -7,7 +7,7 @@ use lib.Dec.{eqb, leb}
 use lib.ListN.{length, take, drop}
 use Rattle.grammar.specs.Bytes.{Bytes, byteValues, CR, SP, CTRLZ, NUL, SOH, STX, EOT, null, every, splitAt}
 use Rattle.grammar.specs.Ascii.{char}
-use Rattle.grammar.specs.Fields.{Form, plain, message, file, formNumber, isHeading, sized, isBody, bodyLimit}
+use Rattle.grammar.specs.Fields.{Form, plain, message, file, formNumber, isHeading, sized, isBody, bodyMax}
 use Rattle.grammar.specs.Answers.{offsetDigits}
 
 -- How the bytes of a transfer are read and written: "Plain: title, CR, ..", "Framed: 01, L, ..".
@@ -125,7 +125,7 @@ pub record Content : Type 0 where
 -- "A body has at most 65,535 bytes"
 abbrev pub valid : Option Parsed → Option Content
 valid none = none
-valid (some p) = cond (p .right && leb (length (p .body)) bodyLimit) (some (record { heading = p .heading; body = p .body })) none
+valid (some p) = cond (p .right && leb (length (p .body)) bodyMax) (some (record { heading = p .heading; body = p .body })) none
 
 unfoldable pub readTransfer : TransferKind → Bytes → Option Content
 readTransfer kind p = valid (parse kind p)

@@ -7,7 +7,7 @@ use lib.Dec.{eqb, ltb}
 use Rattle.grammar.specs.Bytes.{Bytes, CR, SP, same}
 use Rattle.grammar.specs.Ascii.{text, char}
 use Rattle.grammar.specs.Refusals.{lineNotAllowed}
-use Rattle.grammar.specs.Fields.{Form, plain, message, file, upper, after, starts, words, isCall, isAt, isBid, isSize, readFrom, twoHex, decimal}
+use Rattle.grammar.specs.Fields.{Form, plain, message, file, upper, afterCapitals, starts, words, isCall, isAt, isBid, isSize, readFrom, twoHex, decimal}
 
 -- ---------------------------------------------------------------- read
 
@@ -66,7 +66,7 @@ twoHexRead (some r) = twoHex r
 
 -- "Many partners end the block with `F> HH`, two hexadecimal digits in either case." (02, Q-5): one space, as it is written there
 unfoldable pub readSummedEnd : Bytes → Option ℕ
-readSummedEnd ln = twoHexRead (after (text "F> ") ln)
+readSummedEnd ln = twoHexRead (afterCapitals (text "F> ") ln)
 
 abbrev pub orNotAllowed : Option Proposal → TurnLine
 orNotAllowed none = notAllowed

@@ -11,7 +11,7 @@ use Rattle.grammar.specs.Bytes.{Bytes}
 use Rattle.buffer.specs.Put.{putBytes}
 use Rattle.places.specs.Places.{arraysLen, headingAt, headingMax, blockAt, blockLen, proposalLen, entryLen}
 use Rattle.layout.specs.Layout.{entryAt, entryOut}
-use Rattle.session_memory.specs.State.{at}
+use Rattle.session_memory.specs.State.{cursorAt}
 use Rattle.region.specs.Region.{region}
 use Rattle.region.proofs.Laws.{region-length}
 use Rattle.numbers.specs.declared.Numbers.{Numbers}
@@ -35,11 +35,11 @@ clipped a n m h k l e = go (ltb n h) refl
 
 pub message-put : (s : Numbers) (m : Bytes) (l : length m ≡ arraysLen) (inbox e p : Bytes) (k : ℕ) → k ≡ min headingMax (s .reader .head)
     → p ≡ entryAt proposalLen (take blockLen (drop blockAt m)) (s .now .current)
-    → e ≡ putBytes inbox (at (s .keep .kept * entryLen)) (entryOut p (take (headingAt + k - headingAt) (drop headingAt m)) (s .keep .used) (s .reader .body))
+    → e ≡ putBytes inbox (cursorAt (s .keep .kept * entryLen)) (entryOut p (take (headingAt + k - headingAt) (drop headingAt m)) (s .keep .used) (s .reader .body))
     → e ≡ keptInbox (wholeOf s m) inbox
 unfolding keptInbox wholeOf region
 message-put s m l inbox e p k f g h =
-    let w : Bytes → Bytes → Bytes = λ q x. putBytes inbox (at (s .keep .kept * entryLen)) (entryOut q x (s .keep .used) (s .reader .body)) in
+    let w : Bytes → Bytes → Bytes = λ q x. putBytes inbox (cursorAt (s .keep .kept * entryLen)) (entryOut q x (s .keep .used) (s .reader .body)) in
     let i : headingAt + k - headingAt ≡ k = omega arith in
     h ∙ ap (λ (x : Bytes). w x (take (headingAt + k - headingAt) (drop headingAt m))) g
     ∙ ap (w (entryAt proposalLen (region blockAt blockLen m) (s .now .current))) (ap (λ (n : ℕ). take n (drop headingAt m)) i ∙ clipped headingAt headingMax m (s .reader .head) k (omega arith) f)

@@ -6,7 +6,7 @@ use lib.Dec.{eqb}
 use lib.ListN.{take, drop}
 use borrow.Author.Tests.{eq-eqb, ne-eqb}
 use Rattle.grammar.specs.Bytes.{Bytes}
-use Rattle.phase.specs.Phase.{noProposal, ourTurn}
+use Rattle.phase.specs.Phase.{noProposal, ourTurnNow}
 use Rattle.places.specs.Places.{blockAt, blockLen, proposalLen}
 use Rattle.layout.specs.Layout.{byteAt, entryAt}
 use Rattle.transfer_step.specs.declared.Reader.{Reader}
@@ -20,11 +20,11 @@ use Rattle.line_effect.specs.Judge.{noMarks, judged, wentOn, toTransfer, nextAc
 use Rattle.region.specs.Region.{region}
 use Rattle.numbers.specs.declared.Numbers.{Numbers}
 use Rattle.numbers.specs.Whole.{withBlock, arraysIn, awaitOf, wholeOf}
-use Rattle.receive_defined.specs.Receiving.{Settled, settleOf, keptKeep, nextJudged, isPlainAt, keepOf}
+use Rattle.receive_defined.specs.Receiving.{LineDone, settleOf, keptKeep, nextJudged, isPlainAt, keepOf}
 
 module _ (s : Session) (i : ℕ) (k : Keep) (e : k ≡ keptKeep s) where
-  pub next-turn : (n : Marks) → n ≡ noMarks → i ≡ noProposal → judged 0 ourTurn n (withKeep k s) ≡ nextJudged s i
-  next-turn n d f = rw (eq-eqb _ _ f) (ap (λ (x : Marks). judged 0 ourTurn x (withKeep k s)) d ∙ ap (λ (x : Keep). judged 0 ourTurn noMarks (withKeep x s)) e)
+  pub next-turn : (n : Marks) → n ≡ noMarks → i ≡ noProposal → judged 0 ourTurnNow n (withKeep k s) ≡ nextJudged s i
+  next-turn n d f = rw (eq-eqb _ _ f) (ap (λ (x : Marks). judged 0 ourTurnNow x (withKeep k s)) d ∙ ap (λ (x : Keep). judged 0 ourTurnNow noMarks (withKeep x s)) e)
 
   -- the transfer awaited and its reader
   abbrev begun : Await → Reader → Keep → Judged
@@ -43,7 +43,7 @@ pub plain-by : (s : Numbers) (m p : Bytes) (b : ℕ) → p ≡ entryAt proposalL
 unfolding wholeOf region
 plain-by s m p b e f = ap (λ (x : ℕ). eqb x 0) (f ∙ ap (λ (l : Bytes). byteAt l 0) e)
 
-pub keep-by : (s : Session) (table : Bytes) (t : Settled) (i : ℕ) (j : Judged) (p : Bool)
+pub keep-by : (s : Session) (table : Bytes) (t : LineDone) (i : ℕ) (j : Judged) (p : Bool)
     → i ≡ nextAccepted (s .say .signs) (s .now .current + 1) → j ≡ nextJudged s i → p ≡ isPlainAt s → t ≡ settleOf j p table → t ≡ keepOf s table
 unfolding keepOf
 keep-by s table t i j p e f g h =

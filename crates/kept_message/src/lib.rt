@@ -12,7 +12,7 @@ ghost use Rattle.places.specs.Places.{arraysLen};
 ghost use Rattle.numbers.specs.Whole as whole;
 ghost use Rattle.numbers.specs.Whole.{Arrays, sessionOf, wholeOf};
 ghost use Rattle.line_effect.specs.Verdict.{judgedIn};
-ghost use Rattle.receive_defined.specs.Receiving.{settled, keptKeep, nextJudged, isPlainAt, keepOf, keptInbox};
+ghost use Rattle.receive_defined.specs.Receiving.{lineDone, keptKeep, nextJudged, isPlainAt, keepOf, keptInbox};
 ghost use Rattle.receive_defined.specs.Roomy.{Underway};
 
 // One message more is kept, its body behind those kept before.
@@ -63,7 +63,7 @@ fn is_plain(s: Numbers, mem: &[u8]) -> bool
 // A whole transfer: the message is kept, then the next is awaited or it is our turn. mem: the state's arrays.
 pub fn keep_message(s: Numbers, mem: &[u8], inbox: &mut [u8], table: &mut [u8]) -> Left
     requires { ⌜ Underway s × (length (now mem) ≡ arraysLen) ⌝ }
-    ensures { λ r. ⌜ (settled (r .answer) (wholeOf (r .session) (now (mem .entry))) (now (table .exit)) ≡ keepOf (wholeOf s (now (mem .entry))) (now (table .entry))) × (now (inbox .exit) ≡ keptInbox (wholeOf s (now (mem .entry))) (now (inbox .entry))) ⌝ }
+    ensures { λ r. ⌜ (lineDone (r .answer) (wholeOf (r .session) (now (mem .entry))) (now (table .exit)) ≡ keepOf (wholeOf s (now (mem .entry))) (now (table .entry))) × (now (inbox .exit) ≡ keptInbox (wholeOf s (now (mem .entry))) (now (inbox .entry))) ⌝ }
 {
     let signs = s.say.signs;
     let next = next_awaited::next_accepted(signs, s.now.current as usize + 1);

@@ -15,8 +15,7 @@ use Rattle.grammar.specs.Transfers.{partOf}
 use Rattle.grammar.proofs.Basics.{and2, octet}
 use Rattle.mail.specs.Mail.{Message}
 use Rattle.mail.specs.Mail as mail
-use Rattle.buffer.specs.Put.{putBytes}
-use Rattle.buffer.proofs.Laws.{cursor}
+use Rattle.buffer.specs.Put.{putBytes, cursor}
 use Rattle.places.specs.Places.{callMax, atMax, bidMax, headingMax, formAt, typeAt, fromAt, atAt, toAt, bidAt, fieldsSize, proposalSizeAt, proposalLen, partners, statesLen, recordFields, recordTitle, recordTitleLength, recordName, recordNameLength, recordBody, recordBodyLength, recordLen, entryHeading, entryBody, entryBodyLength, entryLen, blockLen}
 use Rattle.layout.specs.Layout.{Extent, Fields, extent, textIn, headingExtentOut, bodyExtentOut, byteAt, le2At, le4At, le8At, le2, le4, le8, fieldIn, fieldOut, entryAt, fieldsAt, fieldsOut, proposalWith, proposalAt, proposalOut, proposalBytes, proposalIn, recordWith, titleExtent, nameExtent, bodyExtent, recordOf, recordOut, stateFor, messageWith, messageIn, keptExtent, messageKept, bodyStart, bodyLength, entryWith, entryOut, messageBytes}
 use Rattle.layout.proofs.Writing.{field-padded}
@@ -147,7 +146,7 @@ fields-kept k s r h b g =
 -- ---------------------------------------------------------------- proposals, in session memory or in a record
 
 -- its fields fit their places
-pub record Fits (p : Proposal) : Type 0 where
+pub record ProposalFits (p : Proposal) : Type 0 where
   pub from : length (p .from) ≤ callMax
   pub at : length (p .at) ≤ atMax
   pub to : length (p .to) ≤ callMax
@@ -164,7 +163,7 @@ fieldsOf p = record { form = p .form; type = p .type; from = p .from; at = p .at
 same-proposal : {f g : Fields} {m n : ℕ} → f ≡ g → m ≡ n → proposalWith f m ≡ proposalWith g n
 same-proposal e₁ e₂ = rw (e₁, e₂)
 
-proposal-first : (p : Proposal) (r : Bytes) → Fits p → proposalAt 0 (proposalBytes p ++ r) ≡ p
+proposal-first : (p : Proposal) (r : Bytes) → ProposalFits p → proposalAt 0 (proposalBytes p ++ r) ≡ p
 proposal-first p r h =
     let f = fieldsOf p in
     let n = le4 (p .size) ++ r in
@@ -173,20 +172,20 @@ proposal-first p r h =
     (le4-skip (fieldsBytes f) n fieldsSize (fields-length (formNumber (p .form)) (p .type) (p .from) (p .at) (p .to) (p .bid)) 0 ∙ le4-here (p .size) r (h .size))
 
 -- WHAT IS WRITTEN IS READ BACK, from any place on
-pub proposal-at : (l : Bytes) (b : ℕ) → length l ≡ b → (p : Proposal) (r : Bytes) → Fits p → proposalAt b (l ++ (proposalBytes p ++ r)) ≡ p
+pub proposal-at : (l : Bytes) (b : ℕ) → length l ≡ b → (p : Proposal) (r : Bytes) → ProposalFits p → proposalAt b (l ++ (proposalBytes p ++ r)) ≡ p
 proposal-at l b n p r h =
     let t = proposalBytes p ++ r in
     ap (λ (k : ℕ). proposalAt k (l ++ t)) (sym (add-zero b)) ∙ same-proposal (fields-skip l t b n 0) (le4-later l t b n 0 proposalSizeAt) ∙ proposal-first p r h
 
-pub proposal-back : (p : Proposal) → Fits p → proposalIn (proposalBytes p) ≡ p
-proposal-back p h = ap proposalIn (sym (append-nil (proposalBytes p))) ∙ proposal-first p [] h
+pub proposal-laid-back : (p : Proposal) → ProposalFits p → proposalIn (proposalBytes p) ≡ p
+proposal-laid-back p h = ap proposalIn (sym (append-nil (proposalBytes p))) ∙ proposal-first p [] h
 
 -- the same where it stands as entry i of a block of five; the others are as before
 module _ (block : Bytes) (i : ℕ) (n : length block ≡ blockLen) (k : i < blockLimit) where
-  pub block-back : (p : Proposal) → Fits p → proposalIn (entryAt proposalLen (putBytes block (cursor (i * proposalLen) 0) (proposalBytes p)) i) ≡ p
+  pub block-back : (p : Proposal) → ProposalFits p → proposalIn (entryAt proposalLen (putBytes block (cursor (i * proposalLen) 0) (proposalBytes p)) i) ≡ p
   block-back p h =
       ap proposalIn (entry-written proposalLen block i (proposalBytes p) (proposal-length (formNumber (p .form)) (p .type) (p .from) (p .at) (p .to) (p .bid) (p .size)) (omega arith))
-      ∙ proposal-back p h
+      ∙ proposal-laid-back p h
 
   pub block-kept : (c : Bytes) → length c ≡ proposalLen → (j : ℕ) → (j ≡ i → ⊥)
       → entryAt proposalLen (putBytes block (cursor (i * proposalLen) 0) c) j ≡ entryAt proposalLen block j
@@ -253,7 +252,7 @@ module _ (states : Bytes) (h : length states ≡ statesLen) (p : Proposal) (titl
   body-back f = same-extent (le4-text (recordBody - recordTitle) ∙ le4-here (body .start) [] (f .start)) (le2-text (recordBodyLength - recordTitle) ∙ le2-here (body .len) [] (f .len))
 
   -- A RECORD AS IT IS WRITTEN IS READ BACK
-  pub record-back : (titles names bodies : Bytes) → Fits p → ExtentFits byteValues title → ExtentFits byteValues name → ExtentFits twoByteValues body
+  pub record-back : (titles names bodies : Bytes) → ProposalFits p → ExtentFits byteValues title → ExtentFits byteValues name → ExtentFits twoByteValues body
       → recordOf titles names bodies whole ≡ recordWith p (textIn titles title) (textIn names name) (textIn bodies body)
   record-back titles names bodies f t n b =
       same-record (proposal-at states recordFields h p texts f) (ap (textIn titles) (title-back t)) (ap (textIn names) (name-back n)) (ap (textIn bodies) (body-back b))

@@ -11,8 +11,7 @@ use lib.Seq.{take-at, take-all, take-append-le, drop-append-le, drop-append-add,
 use borrow.Author.Tests.{le-leb, lt-leb, leb-true, leb-false, ltb-true, ltb-false}
 use Rattle.grammar.specs.Bytes.{Bytes}
 use Rattle.grammar.specs.Transfers.{partOf}
-use Rattle.buffer.specs.Put.{putBytes}
-use Rattle.buffer.proofs.Laws.{cursor}
+use Rattle.buffer.specs.Put.{putBytes, cursor}
 use Rattle.places.specs.Places.{fourBytes, eightBytes}
 use Rattle.layout.specs.Layout.{byteAt, le2At, le4At, le8At, fieldIn, entryAt}
 

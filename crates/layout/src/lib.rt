@@ -4,7 +4,7 @@ ghost use mathlib.Core.Path.{_≡_};
 ghost use Rattle.layout.specs.Layout.{byteAt, fieldIn, entryAt, stateFor};
 
 // How many values a byte has, and numbers of two, three and four bytes.
-pub const BYTE_VALUES: usize = 256;
+pub const BYTE_VALUES: usize = byte::BYTE_VALUES;
 
 pub const TWO_BYTE_VALUES: usize = BYTE_VALUES * BYTE_VALUES;
 

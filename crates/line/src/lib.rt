@@ -23,7 +23,7 @@ pub enum LineByte {
 }
 
 // What the byte b does where len bytes of a line are there; after_cr says that the byte before it was a CR after which an LF is dropped.
-pub fn line_byte(after_cr: bool, len: usize, b: u8) -> LineByte
+pub fn byte_does(after_cr: bool, len: usize, b: u8) -> LineByte
     ensures { λ r. ⌜ lineByteIs r ≡ lineByte «after_cr» len b ⌝ }
 {
     if after_cr {

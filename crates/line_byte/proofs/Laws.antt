@@ -18,15 +18,15 @@ use Rattle.places.specs.Places.{lineAt, lineLen, arraysLen}
 use Rattle.region.specs.Region.{region}
 use Rattle.numbers.specs.declared.Numbers.{Numbers}
 use Rattle.numbers.specs.Whole.{lineIn, sessionOf, wholeOf}
-use Rattle.numbers_in_place.specs.Changed.{withLine}
+use Rattle.numbers_in_place.specs.Changed.{withLineLength}
 use Rattle.numbers_in_place.proofs.Arrays.{line-set}
-use Rattle.receive_defined.specs.Receiving.{Settled, longer, lineMoved, lineStepOf}
+use Rattle.receive_defined.specs.Receiving.{LineDone, longer, lineMoved, lineStepOf}
 
 module _ (s : Session) (b : ℕ) (u v : code.LineByte) (e : u ≡ v) (f : lineByteIs u ≡ lineByte false (s .line .len) b) where
   said : lineByteIs v ≡ lineByte false (s .line .len) b
   said = sym (ap lineByteIs e) ∙ f
 
-  pub line-by : (table known inbox : Bytes) (store : ℕ) (o : Settled) → o ≡ lineMoved (lineByteIs v) s b table known inbox store → o ≡ lineStepOf s b table known inbox store
+  pub line-by : (table known inbox : Bytes) (store : ℕ) (o : LineDone) → o ≡ lineMoved (lineByteIs v) s b table known inbox store → o ≡ lineStepOf s b table known inbox store
   unfolding lineStepOf
   line-by table known inbox store o g = g ∙ ap (λ (x : LineByte). lineMoved x s b table known inbox store) said
 
@@ -49,7 +49,7 @@ grows-short n b u e f = go (eqb b CR) (ltb n lineLimit) refl (sym (ap lineByteIs
 
 -- the numbers with the line one byte longer
 abbrev oneMore : Numbers → Numbers
-oneMore s = withLine (s .line .len + 1) s
+oneMore s = withLineLength (s .line .len + 1) s
 
 pub longer-whole : (s : Numbers) (m : Bytes) (b : ℕ) → s .line .len < lineLen → wholeOf (oneMore s) (set m (lineAt + s .line .len) b) ≡ longer (wholeOf s m) b
 unfolding wholeOf
@@ -79,9 +79,9 @@ pub line-is : (m l : Bytes) (n k : ℕ) → length m ≡ arraysLen → l ≡ lin
 line-is m l n k h e f = ap (take n) e ∙ clipped (lineIn m) lineLimit k n (line-length m h) f
 
 -- the copy of the line
-pub copied : (m e : Bytes) → length m ≡ arraysLen → e ≡ wrote (replicate lineLimit 0) 0 (take lineLimit (drop lineAt m)) → e ≡ lineIn m
+pub line-copied : (m e : Bytes) → length m ≡ arraysLen → e ≡ wrote (replicate lineLimit 0) 0 (take lineLimit (drop lineAt m)) → e ≡ lineIn m
 unfolding region
-copied m e h f =
+line-copied m e h f =
     let x : Bytes = take lineLimit (drop lineAt m) in
     let z : Bytes = replicate lineLimit 0 in
     let n : length x ≡ lineLimit = line-length m h in

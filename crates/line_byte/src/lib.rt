@@ -9,7 +9,7 @@ ghost use Rattle.grammar.specs.Bytes.{CR};
 ghost use Rattle.grammar.specs.Lines.{lineLimit, ends};
 ghost use Rattle.places.specs.Places.{arraysLen};
 ghost use Rattle.numbers.specs.Whole.{lineIn, wholeOf};
-ghost use Rattle.receive_defined.specs.Receiving.{settled, longer, lineMoved, lineStepOf};
+ghost use Rattle.receive_defined.specs.Receiving.{lineDone, longer, lineMoved, lineStepOf};
 
 // The bytes of a line among the state's arrays.
 const LINE_ROOM: usize = places::LINE_ROOM;
@@ -34,7 +34,7 @@ fn ends(
     store: usize,
 ) -> Left
     requires { ⌜ length (now mem) ≡ arraysLen ⌝ }
-    ensures { λ r. ⌜ settled (r .answer) (wholeOf (r .session) (now (mem .exit))) (now (table .exit)) ≡ lineMoved ends (wholeOf s (now (mem .entry))) CR (now (table .entry)) (now (known .entry)) (now (inbox .entry)) store ⌝ }
+    ensures { λ r. ⌜ lineDone (r .answer) (wholeOf (r .session) (now (mem .exit))) (now (table .exit)) ≡ lineMoved ends (wholeOf s (now (mem .entry))) CR (now (table .entry)) (now (known .entry)) (now (inbox .entry)) store ⌝ }
 {
     let line = line_of(mem);
     let n = part::at_most(line::LINE_LIMIT, s.line.len as usize);
@@ -67,9 +67,9 @@ pub fn line_byte(
     store: usize,
 ) -> Left
     requires { ⌜ length (now mem) ≡ arraysLen ⌝ }
-    ensures { λ r. ⌜ settled (r .answer) (wholeOf (r .session) (now (mem .exit))) (now (table .exit)) ≡ lineStepOf (wholeOf s (now (mem .entry))) b (now (table .entry)) (now (known .entry)) (now (inbox .entry)) store ⌝ }
+    ensures { λ r. ⌜ lineDone (r .answer) (wholeOf (r .session) (now (mem .exit))) (now (table .exit)) ≡ lineStepOf (wholeOf s (now (mem .entry))) b (now (table .entry)) (now (known .entry)) (now (inbox .entry)) store ⌝ }
 {
-    let r = line::line_byte(false, s.line.len as usize, b);
+    let r = line::byte_does(false, s.line.len as usize, b);
     match r {
         LineByte::Dropped => Left {
             answer: refusal::NONE,

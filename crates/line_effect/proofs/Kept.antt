@@ -14,49 +14,49 @@ use Rattle.session_memory.specs.Session.{Session}
 use Rattle.phase.specs.Phase.{phaseCalledSid, phaseCallerSid, phasePrompt, phaseTurn, phaseFs, blockLimit, noProposal}
 use Rattle.our_answer.specs.Answers.{answersOf}
 use Rattle.line_effect.specs.Judged.{Judged}
-use Rattle.line_effect.specs.Judge.{refusal, sidRead, sidLine, textLine, nextAccepted, endLine, summedLine, proposalLine, ffLine, fqLine, lineSum, turnRead, turnLine, answerLine, commentLine, judgeOf}
+use Rattle.line_effect.specs.Judge.{refusal, sidTaken, sidLine, textLine, nextAccepted, endLine, summedLine, proposalTaken, ffLine, fqLine, lineSum, turnRead, turnLine, answerLine, commentLine, judgeOf}
 
 -- taken, or as it was
-pub record Kept (s : Session) (j : Judged) : Type 0 where
+pub record TakenOrSame (s : Session) (j : Judged) : Type 0 where
   pub same : (j .answer ≡ 0 → ⊥) → j .next ≡ s
   pub partner : j .next .keep .terms .partner ≡ s .keep .terms .partner
 
 module _ (s : Session) where
-  refused : (n : ℕ) → Kept s (refusal n s)
+  refused : (n : ℕ) → TakenOrSame s (refusal n s)
   refused n = record { same = λ z. refl; partner = refl }
 
-  taken : (j : Judged) → j .answer ≡ 0 → j .next .keep .terms .partner ≡ s .keep .terms .partner → Kept s j
+  taken : (j : Judged) → j .answer ≡ 0 → j .next .keep .terms .partner ≡ s .keep .terms .partner → TakenOrSame s j
   taken j e f = record { same = λ z. absurd (z e); partner = f }
 
-  by : (b : Bool) {x z : Judged} → Kept s x → Kept s z → Kept s (cond b x z)
+  by : (b : Bool) {x z : Judged} → TakenOrSame s x → TakenOrSame s z → TakenOrSame s (cond b x z)
   by true p q = p
   by false p q = q
 
-  sid-read : (o : Option (List ℕ)) → Kept s (sidRead o s)
+  sid-read : (o : Option (List ℕ)) → TakenOrSame s (sidTaken o s)
   sid-read none = refused _
   sid-read (some fs) = by (hasFeature letterF fs) (taken _ refl refl) (refused _)
 
-  sid-kept : (ln : Bytes) → Kept s (sidLine ln s)
+  sid-kept : (ln : Bytes) → TakenOrSame s (sidLine ln s)
   unfolding sidLine
   sid-kept ln = sid-read (readSid ln)
 
-  text-kept : (ln : Bytes) → Kept s (textLine ln s)
+  text-kept : (ln : Bytes) → TakenOrSame s (textLine ln s)
   unfolding textLine
   text-kept ln = by (isPrompt ln) (taken _ refl refl) (taken _ refl refl)
 
-  comment-kept : (ln : Bytes) → Kept s (commentLine ln s)
+  comment-kept : (ln : Bytes) → TakenOrSame s (commentLine ln s)
   unfolding commentLine
   comment-kept ln = taken _ refl refl
 
   module _ (table known inbox : Bytes) (store : ℕ) where
-    end-kept : Kept s (endLine s table known inbox store)
+    end-kept : TakenOrSame s (endLine s table known inbox store)
     unfolding endLine
     end-kept =
         by (eqb (s .now .proposals) 0) (refused _)
         (by (eqb (nextAccepted (answersOf (s .now) (s .keep) table known inbox store) 0) noProposal) (taken _ refl refl) (taken _ refl refl))
 
-    turn-read : (n : ℕ) (t : TurnLine) → Kept s (turnRead t n s table known inbox store)
-    unfolding ffLine fqLine proposalLine summedLine
+    turn-read : (n : ℕ) (t : TurnLine) → TakenOrSame s (turnRead t n s table known inbox store)
+    unfolding ffLine fqLine proposalTaken summedLine
     turn-read n saysFF = by (eqb (s .now .proposals) 0) (by (s .now .ff) (refused _) (taken _ refl refl)) (refused _)
     turn-read n saysFQ = by (eqb (s .now .proposals) 0) (by (s .now .ff) (taken _ refl refl) (refused _)) (refused _)
     turn-read n endsBlock = end-kept
@@ -64,15 +64,15 @@ module _ (s : Session) where
     turn-read n (proposes q) = by (ltb (s .now .proposals) blockLimit) (taken _ refl refl) (refused _)
     turn-read n (endsSummed h) = by (eqb (s .now .proposals) 0) (refused _) (by (eqb ((s .now .sum + h) % byteValues) 0) end-kept (refused _))
 
-    turn-kept : (ln : Bytes) → Kept s (turnLine ln s table known inbox store)
+    turn-kept : (ln : Bytes) → TakenOrSame s (turnLine ln s table known inbox store)
     unfolding turnLine
     turn-kept ln = turn-read (lineSum ln) (readTurnLine (s .keep .framed) (trim ln))
 
-    answer-kept : (ln : Bytes) → Kept s (answerLine ln s)
+    answer-kept : (ln : Bytes) → TakenOrSame s (answerLine ln s)
     unfolding answerLine
     answer-kept ln = by (eqb (answerNumber (s .keep .terms .level) (s .now .ours .count) ln) 0) (taken _ refl refl) (refused _)
 
-    pub judge-kept : (ln : Bytes) → Kept s (judgeOf ln s table known inbox store)
+    pub judge-kept : (ln : Bytes) → TakenOrSame s (judgeOf ln s table known inbox store)
     unfolding judgeOf
     judge-kept ln =
         by (isComment (trim ln)) (comment-kept (trim ln))

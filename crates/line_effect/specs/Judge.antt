@@ -10,7 +10,7 @@ use Rattle.grammar.specs.Bytes.{Bytes, byteValues}
 use Rattle.grammar.specs.Refusals.{notSid, noForwarding, lineNotAllowed, proposalCount, wrongBlockSum}
 use Rattle.grammar.specs.Fields.{formNumber}
 use Rattle.grammar.specs.Lines.{trim, isComment, isPrompt}
-use Rattle.grammar.specs.Sid.{readSid, hasFeature, framed, levelInForce, letterF}
+use Rattle.grammar.specs.Sid.{readSid, hasFeature, framed, levelOfSid, letterF}
 use Rattle.grammar.specs.Turns.{Proposal, TurnLine, saysFF, saysFQ, endsBlock, notAllowed, proposes, endsSummed, readTurnLine, turnLineNumber, withCr}
 use Rattle.grammar.specs.Transfers.{byteSum}
 use Rattle.grammar.specs.Answers.{accept, decline, defer, writeSign}
@@ -19,14 +19,14 @@ use Rattle.buffer.specs.Put.{putBytes}
 use Rattle.layout.specs.Layout.{byteAt, entryAt, proposalOut}
 use Rattle.transfer_step.specs.declared.Reader.{Reader}
 use Rattle.transfer_step.specs.Step.{startOf}
-use Rattle.session_memory.specs.State.{at, held, fiveOf, noFive}
+use Rattle.session_memory.specs.State.{cursorAt, held, fiveOf, noFive}
 use Rattle.session_memory.specs.Setters.{withPhase, withFf, withCurrent, withProposals, withOurs, withSum, withFirst, withThen, withSigns, withFramed, withLevel, withSending, withReader, withNow, withSay, withKeep, withReading}
 use Rattle.session_memory.specs.declared.Five.{Five}
 use Rattle.session_memory.specs.Session.{Await}
 use Rattle.session_memory.specs.declared.Say.{Say}
 use Rattle.session_memory.specs.Session.{Keep}
 use Rattle.session_memory.specs.Session.{Session}
-use Rattle.phase.specs.Phase.{phaseCalledSid, phaseCallerSid, phasePrompt, phaseTurn, phaseFs, phaseTransfer, phaseOver, pieceSid, pieceSigns, pieceTransfers, notOurTurn, ourTurn, ourTurnAfterFF, stateWaiting, stateForwarded, stateDeclined, blockLimit, noProposal, wasDeferred}
+use Rattle.phase.specs.Phase.{phaseCalledSid, phaseCallerSid, phasePrompt, phaseTurn, phaseFs, phaseTransfer, phaseOver, pieceSid, pieceSigns, pieceTransfers, notOurTurn, ourTurnNow, ourTurnAfterFF, stateWaiting, stateForwarded, stateDeclined, blockLimit, noProposal, wasDeferred}
 use Rattle.places.specs.Places.{formAt, proposalLen}
 use Rattle.our_answer.specs.Answers.{answersOf}
 use Rattle.line_effect.specs.declared.Marks.{Marks}
@@ -82,20 +82,20 @@ sends f flags k = withSending f flags k
 abbrev pub afterSid : Await → Await
 afterSid w = cond (eqb (w .phase) phaseCallerSid) (inPhase phasePrompt w) (toTurn false w)
 
-abbrev pub sidRead : Option (List ℕ) → Session → Judged
-sidRead none s = refusal notSid s
-sidRead (some fs) s =
-    cond (hasFeature letterF fs) (wentOn (withNow (afterSid (s .now)) (withKeep (withMode (framed fs) (levelInForce fs) (s .keep)) s))) (refusal noForwarding s)
+abbrev pub sidTaken : Option (List ℕ) → Session → Judged
+sidTaken none s = refusal notSid s
+sidTaken (some fs) s =
+    cond (hasFeature letterF fs) (wentOn (withNow (afterSid (s .now)) (withKeep (withMode (framed fs) (levelOfSid fs) (s .keep)) s))) (refusal noForwarding s)
 
 unfoldable pub sidLine : Bytes → Session → Judged
-sidLine ln s = sidRead (readSid ln) s
+sidLine ln s = sidTaken (readSid ln) s
 
 -- What the caller says at the prompt, before its first turn
 abbrev pub signOnPiece : Session → ℕ
 signOnPiece s = pieceSid
 
 unfoldable pub textLine : Bytes → Session → Judged
-textLine ln s = cond (isPrompt ln) (judged 0 ourTurn noMarks (withSay (saysFirst (signOnPiece s) (s .say)) s)) (wentOn s)
+textLine ln s = cond (isPrompt ln) (judged 0 ourTurnNow noMarks (withSay (saysFirst (signOnPiece s) (s .say)) s)) (wentOn s)
 
 -- ---------------------------------------------------------------- lines of a turn
 
@@ -124,7 +124,7 @@ wholeTurn speaks s = judged 0 speaks (turnMarks (s .keep)) (withKeep (settledKee
 -- The block is answered by these signs: the transfer of the proposal at place i is awaited, or it is our turn.
 abbrev pub answered : Five → ℕ → Session → Judged
 answered signs i s =
-    cond (eqb i noProposal) (wholeTurn ourTurn (withSay (saysSigns signs (s .say)) s))
+    cond (eqb i noProposal) (wholeTurn ourTurnNow (withSay (saysSigns signs (s .say)) s))
     (wholeTurn notOurTurn (withNow (toTransfer i (s .now)) (withSay (saysSigns signs (s .say)) (withReading (withReader (readerFor (s .now) i) (s .reading)) s))))
 
 unfoldable pub endLine : Session → Bytes → Bytes → Bytes → ℕ → Judged
@@ -147,10 +147,10 @@ abbrev pub withProposal : Proposal → ℕ → Await → Await
 withProposal q n w =
     withSum ((w .sum + n) % byteValues)
     (withProposals (w .proposals + 1)
-    (putBytes (w .block) (at (w .proposals * proposalLen)) (proposalOut (formNumber (q .form)) (q .type) (q .from) (q .at) (q .to) (q .bid) (q .size))) w)
+    (putBytes (w .block) (cursorAt (w .proposals * proposalLen)) (proposalOut (formNumber (q .form)) (q .type) (q .from) (q .at) (q .to) (q .bid) (q .size))) w)
 
-unfoldable pub proposalLine : Proposal → ℕ → Session → Judged
-proposalLine q n s = cond (ltb (s .now .proposals) blockLimit) (wentOn (withNow (withProposal q n (s .now)) s)) (refusal proposalCount s)
+unfoldable pub proposalTaken : Proposal → ℕ → Session → Judged
+proposalTaken q n s = cond (ltb (s .now .proposals) blockLimit) (wentOn (withNow (withProposal q n (s .now)) s)) (refusal proposalCount s)
 
 unfoldable pub ffLine : Session → Judged
 ffLine s =
@@ -165,7 +165,7 @@ turnRead saysFF n s table known inbox store = ffLine s
 turnRead saysFQ n s table known inbox store = fqLine s
 turnRead endsBlock n s table known inbox store = endLine s table known inbox store
 turnRead notAllowed n s table known inbox store = refusal (turnLineNumber notAllowed) s
-turnRead (proposes q) n s table known inbox store = proposalLine q n s
+turnRead (proposes q) n s table known inbox store = proposalTaken q n s
 turnRead (endsSummed h) n s table known inbox store = summedLine h s table known inbox store
 
 -- The line as it came: its sum is of all its bytes.

@@ -38,25 +38,25 @@ made-other v is st k h = let e : 0 + k ≡ k = omega arith in other-from 0 v is 
 -- ---------------------------------------------------------------- computed
 
 -- Each effect on records of either kind: sent and not; given each sign; a message whose fields all differ.
-pub at-edges :
+pub effects-at-edges :
     (forwardedSent (2 ∷ 0 ∷ []) (0 ∷ 2 ∷ 0 ∷ 0 ∷ []) ≡ 1 ∷ 2 ∷ 1 ∷ 0 ∷ [])
     × (declinedBy (decline ∷ accept ∷ defer ∷ decline ∷ []) (3 ∷ 1 ∷ 0 ∷ 2 ∷ []) (0 ∷ 0 ∷ 0 ∷ 0 ∷ 1 ∷ []) ≡ 0 ∷ 0 ∷ 2 ∷ 2 ∷ 1 ∷ [])
     × (acceptedBy {A = ℕ} (accept ∷ decline ∷ accept ∷ defer ∷ []) (7 ∷ 8 ∷ 6 ∷ 9 ∷ []) ≡ 7 ∷ 6 ∷ [])
     × (keptAs (record { form = file; type = 66; from = text "A"; at = text "B"; to = text "C"; bid = text "D"; size = 9 }) (record { heading = text "H"; body = text "X" })
     ≡ record { form = file; type = 66; from = text "A"; at = text "B"; to = text "C"; bid = text "D"; heading = text "H"; body = text "X" })
-at-edges = (refl, refl, refl, refl)
+effects-at-edges = (refl, refl, refl, refl)
 
 -- The tally sheet of 02, Q-3, before and after each event, all numbers different: proposed, forwarded, declined, deferred.
 abbrev account : List ℕ → ℕ → ℕ → ℕ → ℕ → Account
 account sent p f d e = record { sent = sent; proposed = p; forwarded = f; declined = d; deferred = e }
 
-pub counted :
+pub effects-counted :
     (withProposed 3 (account (4 ∷ []) 40 30 20 10) ≡ account (4 ∷ []) 43 30 20 10)
     × (withSent 9 (account (4 ∷ []) 40 30 20 10) ≡ account (4 ∷ 9 ∷ []) 40 30 20 10)
     × (withAnswers (decline ∷ accept ∷ defer ∷ decline ∷ accept ∷ []) (3 ∷ 1 ∷ 0 ∷ 2 ∷ 5 ∷ []) (account [] 40 30 20 10) ≡ account [] 40 30 22 11)
     × (withForwarded (account (4 ∷ 9 ∷ []) 40 30 20 10) ≡ account [] 40 32 20 10)
     × (noAccount ≡ account [] 0 0 0 0)
-counted = (refl, refl, refl, refl, refl)
+effects-counted = (refl, refl, refl, refl, refl)
 
 -- "those proposed whose FS hasn't come, or which were accepted and aren't forwarded yet"
 pub not-settled :

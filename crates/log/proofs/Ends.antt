@@ -22,7 +22,7 @@ use Rattle.log.specs.Log.{kindOwed, weSay, Event, took, gave, over, ourT
 use Rattle.log.specs.Fed.{Fed, unitByte, outOfOrder, fedByte, fedAll}
 use Rattle.log.proofs.Said.{summed-wrong}
 use Rattle.log.proofs.Spoken.{none-proposed}
-use Rattle.log.proofs.Units.{within, ended-stays, ours, line-fed, owing}
+use Rattle.log.proofs.Units.{logWithin, ended-stays, ours, line-fed, owing}
 
 -- the log k has the same account, states, mode and messages kept as l
 pub record Stays (k l : Log) : Type 0 where
@@ -38,10 +38,10 @@ longer-hopeless T l u b h r c = ap (λ (v : Bytes). whole T (l .book) (l .course
 
 -- one event; more: those after it
 hopeless-at : (T : List Record) (es : List Event) (l : Log) (a : Bool) (u : Bytes) → Hopeless T l u
-    → ((c : Bool) (v : Bytes) → Hopeless T l v → Stays (fedAll T (within l c v) es .log) l) → (e : Event) → Stays (fedAll T (fedByte T (within l a u) e) es .log) l
+    → ((c : Bool) (v : Bytes) → Hopeless T l v → Stays (fedAll T (logWithin l c v) es .log) l) → (e : Event) → Stays (fedAll T (fedByte T (logWithin l a u) e) es .log) l
 hopeless-at T es l a u h more e = at e
   where
-    stops : Stays (fedAll T (outOfOrder (within l a u)) es .log) l
+    stops : Stays (fedAll T (outOfOrder (logWithin l a u)) es .log) l
     stops = let k = ended-stays T es l a [] in record { account = ap (λ (o : Course). o .account) (k .0); book = k .1 }
 
     -- a byte of the unit
@@ -51,35 +51,35 @@ hopeless-at T es l a u h more e = at e
         rw w (more c (u ++ (b ∷ [])) (longer-hopeless T l u b h))
 
     took-at : (b : ℕ) (d o : Bool)
-        → Stays (fedAll T (cond d (within l false u) (cond o (outOfOrder (within l a u)) (unitByte T (withAfterCr l a) u b false))) es .log) l
+        → Stays (fedAll T (cond d (logWithin l false u) (cond o (outOfOrder (logWithin l a u)) (unitByte T (withAfterCr l a) u b false))) es .log) l
     took-at b true o = more false u h
     took-at b false true = stops
     took-at b false false = one b false
 
-    gave-at : (b : ℕ) (o : Bool) → Stays (fedAll T (cond o (unitByte T (withAfterCr l a) u b a) (outOfOrder (within l a u))) es .log) l
+    gave-at : (b : ℕ) (o : Bool) → Stays (fedAll T (cond o (unitByte T (withAfterCr l a) u b a) (outOfOrder (logWithin l a u))) es .log) l
     gave-at b true = one b a
     gave-at b false = stops
 
-    at : (e : Event) → Stays (fedAll T (fedByte T (within l a u) e) es .log) l
+    at : (e : Event) → Stays (fedAll T (fedByte T (logWithin l a u) e) es .log) l
     at (took b) = took-at b (a && eqb b LF) (isOurs (l .course .next))
     at (gave b) = gave-at b (isOurs (l .course .next))
 
 -- A UNIT THAT CAN NEVER BE WHOLE ENDS THE LOG
-pub hopeless-ends : (T : List Record) (es : List Event) (l : Log) (a : Bool) (u : Bytes) → Hopeless T l u → Stays (fedAll T (within l a u) es .log) l
+pub hopeless-ends : (T : List Record) (es : List Event) (l : Log) (a : Bool) (u : Bytes) → Hopeless T l u → Stays (fedAll T (logWithin l a u) es .log) l
 hopeless-ends T [] l a u h = record { account = refl; book = refl }
 hopeless-ends T (e ∷ es) l a u h = hopeless-at T es l a u h (λ c v k. hopeless-ends T es l c v k) e
 
 -- the partner's: no valid transfer begins with its bytes so far
 pub their-transfer-ends : (T : List Record) (p : Proposal) (ps : List Proposal) (account : Account) (k : Book) (a : Bool) (u : Bytes)
     → ((r : Bytes) → readTransfer (kindOwed k p) (u ++ r) ≡ none) → (es : List Event)
-    → Stays (fedAll T (within (owing a (theirTransfer p ps) account k) a u) es .log) (owing a (theirTransfer p ps) account k)
+    → Stays (fedAll T (logWithin (owing a (theirTransfer p ps) account k) a u) es .log) (owing a (theirTransfer p ps) account k)
 their-transfer-ends T p ps account k a u h es =
     hopeless-ends T es (owing a (theirTransfer p ps) account k) a u (λ r b. ap isSome (ap (readTransfer (kindOwed k p)) (append-assoc u r (b ∷ [])) ∙ h (r ++ (b ∷ []))))
 
 -- ours: its bytes so far do not begin what we write for its record
 pub our-transfer-ends : (T : List Record) (i : ℕ) (is : List ℕ) (account : Account) (k : Book) (a : Bool) (u : Bytes)
     → ((r : Bytes) → same (u ++ r) (transferOf (recordAt T i)) ≡ false) → (es : List Event)
-    → Stays (fedAll T (within (owing a (ourTransfer i is) account k) a u) es .log) (owing a (ourTransfer i is) account k)
+    → Stays (fedAll T (logWithin (owing a (ourTransfer i is) account k) a u) es .log) (owing a (ourTransfer i is) account k)
 our-transfer-ends T i is account k a u h es =
     hopeless-ends T es (owing a (ourTransfer i is) account k) a u
     (λ r b. ap (λ (v : Bytes). same v (transferOf (recordAt T i))) (append-assoc u r (b ∷ [])) ∙ h (r ++ (b ∷ [])))

@@ -10,7 +10,7 @@ use borrow.Author.Tests.{leb-true, leb-false, le-ltb, lt-ltb}
 use Rattle.grammar.specs.Bytes.{Bytes}
 use Rattle.grammar.specs.Ascii.{text}
 use Rattle.grammar.specs.Lines.{trim, isComment}
-use Rattle.grammar.specs.Sid.{levelInForce, levelOf, letterB, readSid}
+use Rattle.grammar.specs.Sid.{levelOfSid, levelOf, letterB, readSid}
 use Rattle.grammar.specs.Turns.{Proposal}
 use Rattle.grammar.specs.Answers.{Level, level0, level1, digitCount, readFs, signAt}
 use Rattle.mail.specs.Mail.{Record}
@@ -18,8 +18,8 @@ use Rattle.log.specs.Effects.{noAccount}
 use Rattle.log.specs.Log.{ourAnswer, theirSid, theirAnswer, over, Book, withFramed, withLevel, levelBetween, ourLine, theirLine, logOpened}
 
 -- THE SAME LEVEL
-pub level-alike : (fs : List ℕ) → levelBetween fs ≡ levelInForce fs
-unfolding readSid levelInForce
+pub level-alike : (fs : List ℕ) → levelBetween fs ≡ levelOfSid fs
+unfolding readSid levelOfSid
 level-alike fs = go (levelOf letterB fs) (leb (levelOf letterB fs) 1) refl
   where
     go : (n : ℕ) (c : Bool) → leb n 1 ≡ c → cond c n 1 ≡ cond (ltb 1 n) 1 n

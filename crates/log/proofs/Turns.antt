@@ -50,7 +50,7 @@ lfFirst [] = false
 lfFirst (b ∷ bs) = eqb b LF
 
 -- "a 257th byte of a line comes before CR" is not so of it; an LF at its start would be dropped, or make it no line of a turn
-pub record Proper (ln : Bytes) : Type 0 where
+pub record ProperLine (ln : Bytes) : Type 0 where
   pub whole : Lacks CR ln
   pub short : length ln ≤ lineLimit
   pub noLf : lfFirst ln ≡ false
@@ -58,7 +58,7 @@ pub record Proper (ln : Bytes) : Type 0 where
 -- each of them
 abbrev pub AllProper : List Came → Type 0
 AllProper [] = Unit {0}
-AllProper (c ∷ cs) = Proper (c .text) × AllProper cs
+AllProper (c ∷ cs) = ProperLine (c .text) × AllProper cs
 
 -- whether an LF would be dropped after them; a: before them
 abbrev pub lfAwaited : Bool → List Came → Bool
@@ -75,13 +75,13 @@ ifProposal endsBlock ln = []
 ifProposal notAllowed ln = []
 ifProposal (endsSummed h) ln = []
 
-abbrev pub proposalBytes : Bool → Bytes → Bytes
-proposalBytes md ln = cond (isComment (trim ln)) [] (ifProposal (readTurnLine md (trim ln)) ln)
+abbrev pub proposalUnit : Bool → Bytes → Bytes
+proposalUnit md ln = cond (isComment (trim ln)) [] (ifProposal (readTurnLine md (trim ln)) ln)
 
 -- and of all of them
 abbrev pub proposalsCame : Bool → List Came → Bytes
 proposalsCame md [] = []
-proposalsCame md (c ∷ cs) = proposalBytes md (c .text) ++ proposalsCame md cs
+proposalsCame md (c ∷ cs) = proposalUnit md (c .text) ++ proposalsCame md cs
 
 -- what a line says in a turn after the proposal lines raw: "A line that begins with `;` is ignored wherever a line is awaited"
 abbrev pub lineSays : Bool → Bytes → Bytes → List TurnLine
@@ -90,7 +90,7 @@ lineSays md raw ln = cond (isComment (trim ln)) [] (checked raw (readTurnLine md
 -- and all of them
 abbrev pub linesSay : Bool → Bytes → List Came → List TurnLine
 linesSay md raw [] = []
-linesSay md raw (c ∷ cs) = lineSays md raw (c .text) ++ linesSay md (raw ++ proposalBytes md (c .text)) cs
+linesSay md raw (c ∷ cs) = lineSays md raw (c .text) ++ linesSay md (raw ++ proposalUnit md (c .text)) cs
 
 -- and the line ln after them
 abbrev pub lastSays : Bool → List Came → Bytes → TurnLine
@@ -168,7 +168,7 @@ module _ (T : List Record) (ff : Bool) (account : Account) (k : Book) where
   effected e = record { log = afterTheirs true e; raw = [] }
 
   -- a whole line, whether or not an LF would be dropped before it
-  line-judged : (a : Bool) (ls : List TurnLine) (raw ln : Bytes) → Proper ln
+  line-judged : (a : Bool) (ls : List TurnLine) (raw ln : Bytes) → ProperLine ln
       → fedAll T (amid a ls raw []) (map took (withCr ln)) ≡ effected (theirLine (theirTurn ff ls raw) k account ln)
   line-judged a ls raw ln h =
       no-lf a ln (h .noLf) ∙ line-fed T (owing false (theySay (theirTurn ff ls raw)) account k) ln refl (theirs _) (h .whole)
@@ -187,10 +187,10 @@ module _ (T : List Record) (ff : Bool) (account : Account) (k : Book) where
   lf-leads true ls raw = record { fed = refl; untouched = (same true ls raw [], same false ls raw []) }
   lf-leads false ls raw = record { fed = refl; untouched = same true ls raw [] }
 
-  line-leads : (c : Came) (a : Bool) (ls : List TurnLine) (raw : Bytes) → Proper (c .text)
+  line-leads : (c : Came) (a : Bool) (ls : List TurnLine) (raw : Bytes) → ProperLine (c .text)
       → (isComment (trim (c .text)) ≡ false → said ff (ls ++ (checked raw (readTurnLine (k .framed) (trim (c .text))) ∷ [])) ≡ unfinished)
       → Leads (amid a ls raw []) (map took (withCr (c .text) ++ lfBytes (c .lf)))
-      (amid (not (c .lf)) (ls ++ lineSays (k .framed) raw (c .text)) (raw ++ proposalBytes (k .framed) (c .text)) [])
+      (amid (not (c .lf)) (ls ++ lineSays (k .framed) raw (c .text)) (raw ++ proposalUnit (k .framed) (c .text)) [])
   line-leads c a ls raw h i =
       rw (map-append took (withCr (c .text)) (lfBytes (c .lf)))
       (then-leads (map took (withCr (c .text))) (map took (lfBytes (c .lf))) (amid a ls raw []) (amid true ls′ raw′ []) (amid (not (c .lf)) ls′ raw′ [])
@@ -200,7 +200,7 @@ module _ (T : List Record) (ff : Bool) (account : Account) (k : Book) where
       ls′ = ls ++ lineSays (k .framed) raw (c .text)
 
       raw′ : Bytes
-      raw′ = raw ++ proposalBytes (k .framed) (c .text)
+      raw′ = raw ++ proposalUnit (k .framed) (c .text)
 
       whole-line : fedAll T (amid a ls raw []) (map took (withCr (c .text))) ≡ amid true ls′ raw′ []
       whole-line = line-judged a ls raw (c .text) h ∙ go (isComment (trim (c .text))) i
@@ -235,7 +235,7 @@ module _ (T : List Record) (ff : Bool) (account : Account) (k : Book) where
       (subst (λ (x : List TurnLine). Leads (amid a ls raw []) (map took line ++ map took (bytesCame cs)) (amid (lfAwaited a (c ∷ cs)) x (raw ++ proposalsCame (k .framed) (c ∷ cs)) []))
       (append-assoc ls now (linesSay (k .framed) raw′ cs))
       (subst (λ (x : Bytes). Leads (amid a ls raw []) (map took line ++ map took (bytesCame cs)) (amid (lfAwaited a (c ∷ cs)) ((ls ++ now) ++ linesSay (k .framed) raw′ cs) x []))
-      (append-assoc raw (proposalBytes (k .framed) (c .text)) (proposalsCame (k .framed) cs))
+      (append-assoc raw (proposalUnit (k .framed) (c .text)) (proposalsCame (k .framed) cs))
       (then-leads (map took line) (map took (bytesCame cs)) (amid a ls raw []) (amid (not (c .lf)) (ls ++ now) raw′ []) _
       (line-leads c a ls raw (h .0) (λ q. ap (λ (b : Bool). said ff (ls ++ cond b [] (read ∷ []))) (sym q) ∙ said-part ff (ls ++ now) (linesSay (k .framed) raw′ cs) moved))
       (lines-lead cs (not (c .lf)) (ls ++ now) raw′ (h .1) moved))))
@@ -250,7 +250,7 @@ module _ (T : List Record) (ff : Bool) (account : Account) (k : Book) where
       now = lineSays (k .framed) raw (c .text)
 
       raw′ : Bytes
-      raw′ = raw ++ proposalBytes (k .framed) (c .text)
+      raw′ = raw ++ proposalUnit (k .framed) (c .text)
 
       moved : said ff ((ls ++ now) ++ linesSay (k .framed) raw′ cs) ≡ unfinished
       moved = ap (said ff) (append-assoc ls now (linesSay (k .framed) raw′ cs)) ∙ e
@@ -258,7 +258,7 @@ module _ (T : List Record) (ff : Bool) (account : Account) (k : Book) where
 -- ---------------------------------------------------------------- THE LAWS
 
 -- ln: the last line, no comment; cs: the lines before it. a: the log would drop an LF now; none comes.
-module _ (T : List Record) (a ff : Bool) (account : Account) (k : Book) (cs : List Came) (ln : Bytes) (proper : AllProper cs) (proper-last : Proper ln)
+module _ (T : List Record) (a ff : Bool) (account : Account) (k : Book) (cs : List Came) (ln : Bytes) (proper : AllProper cs) (proper-last : ProperLine ln)
     (no-comment : isComment (trim ln) ≡ false) (not-whole : said ff (linesSay (k .framed) [] cs) ≡ unfinished) where
   -- up to the last line
   before-last : Leads T ff account k (amid T ff account k a [] [] []) (map took (bytesCame cs))
@@ -299,7 +299,7 @@ module _ (T : List Record) (a ff : Bool) (account : Account) (k : Book) (cs : Li
           ∙ ap (λ (f : Fed). fedAll T f fs) (wrong-sum-fed h e n)
 
 -- the lines together say a whole turn with the proposals ps, none for FF
-module _ (T : List Record) (a ff : Bool) (account : Account) (k : Book) (cs : List Came) (ln : Bytes) (ps : List Proposal) (proper : AllProper cs) (proper-last : Proper ln)
+module _ (T : List Record) (a ff : Bool) (account : Account) (k : Book) (cs : List Came) (ln : Bytes) (ps : List Proposal) (proper : AllProper cs) (proper-last : ProperLine ln)
     (no-comment : isComment (trim ln) ≡ false) (whole-turn : said ff (linesSay (k .framed) [] cs ++ (lastSays (k .framed) cs ln ∷ [])) ≡ turn ps) where
   not-yet : said ff (linesSay (k .framed) [] cs) ≡ unfinished
   not-yet = said-before ff (linesSay (k .framed) [] cs) (lastSays (k .framed) cs ln) [] (ap goesWell whole-turn)
@@ -372,7 +372,7 @@ our-turn-counts T a ff p ps account k is f h e =
         go (some i) (some js) ih e = let z : i ∷ js ≡ is = cc in ap length (sym z) ∙ ap suc (ih js refl)
 
 -- THE PARTNER'S VALID FS LINE ln: "The partner's makes declined records 2.", we owe the accepted transfers, and declined and deferred ones count as that
-pub their-answer-fed : (T : List Record) (is : List ℕ) (account : Account) (k : Book) (ln : Bytes) (ss : List Sign) → Proper ln → isComment (trim ln) ≡ false
+pub their-answer-fed : (T : List Record) (is : List ℕ) (account : Account) (k : Book) (ln : Bytes) (ss : List Sign) → ProperLine ln → isComment (trim ln) ≡ false
     → readFs (k .level) (length is) (trim ln) ≡ some ss
     → fedAll T (record { log = owing false (theySay (theirAnswer is)) account k; raw = [] }) (map took (withCr ln))
     ≡ record { log = owing true (oursOwed (acceptedBy ss is)) (withAnswers ss is account) (withStates k (declinedBy ss is (k .states))); raw = [] }

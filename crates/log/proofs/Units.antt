@@ -26,16 +26,16 @@ abbrev pub Agrees : Log → Log → Type 0
 Agrees k l = (k .course ≡ l .course) × (k .book ≡ l .book)
 
 -- the log l with this flag, and u of the next unit
-abbrev pub within : Log → Bool → Bytes → Fed
-within l a u = record { log = withAfterCr l a; raw = u }
+abbrev pub logWithin : Log → Bool → Bytes → Fed
+logWithin l a u = record { log = withAfterCr l a; raw = u }
 
 -- once the log has ended nothing changes
-pub ended-stays : (T : List Record) (es : List Event) (l : Log) (a : Bool) (u : Bytes) → Agrees (fedAll T (within (stopped l) a u) es .log) (stopped l)
+pub ended-stays : (T : List Record) (es : List Event) (l : Log) (a : Bool) (u : Bytes) → Agrees (fedAll T (logWithin (stopped l) a u) es .log) (stopped l)
 ended-stays T [] l a u = (refl, refl)
 ended-stays T (took b ∷ es) l a u = go (a && eqb b LF) (ended-stays T es l false u) (ended-stays T es l false (u ++ (b ∷ [])))
   where
-    go : (c : Bool) → Agrees (fedAll T (within (stopped l) false u) es .log) (stopped l) → Agrees (fedAll T (within (stopped l) false (u ++ (b ∷ []))) es .log) (stopped l)
-        → Agrees (fedAll T (cond c (within (stopped l) false u) (within (stopped l) false (u ++ (b ∷ [])))) es .log) (stopped l)
+    go : (c : Bool) → Agrees (fedAll T (logWithin (stopped l) false u) es .log) (stopped l) → Agrees (fedAll T (logWithin (stopped l) false (u ++ (b ∷ []))) es .log) (stopped l)
+        → Agrees (fedAll T (cond c (logWithin (stopped l) false u) (logWithin (stopped l) false (u ++ (b ∷ [])))) es .log) (stopped l)
     go true h k = h
     go false h k = k
 ended-stays T (gave b ∷ es) l a u = ended-stays T es l a []
@@ -52,7 +52,7 @@ one-more T l g n outOfTurn h = h
 one-more T l g n (unit u b a rest) h = let k = h .1 in (h .0, omega arith)
 
 cut-fed : (T : List Record) (l : Log) (es : List Event) (a : Bool) (u : Bytes)
-    → CutFed T l (fedAll T (within l a u) es) (length es) (cutUnit T (l .book) (l .course .next) a u es)
+    → CutFed T l (fedAll T (logWithin l a u) es) (length es) (cutUnit T (l .book) (l .course .next) a u es)
 cut-fed T l [] a u = (refl, refl)
 cut-fed T l (took b ∷ es) a u =
     go (a && eqb b LF) (isOurs n) (whole T (l .book) n u b) (cut-fed T l es false u) (cut-fed T l es false (u ++ (b ∷ [])))
@@ -60,34 +60,34 @@ cut-fed T l (took b ∷ es) a u =
     n : Next
     n = l .course .next
 
-    go : (c d w : Bool) → CutFed T l (fedAll T (within l false u) es) (length es) (cutUnit T (l .book) n false u es)
-        → CutFed T l (fedAll T (within l false (u ++ (b ∷ []))) es) (length es) (cutUnit T (l .book) n false (u ++ (b ∷ [])) es)
+    go : (c d w : Bool) → CutFed T l (fedAll T (logWithin l false u) es) (length es) (cutUnit T (l .book) n false u es)
+        → CutFed T l (fedAll T (logWithin l false (u ++ (b ∷ []))) es) (length es) (cutUnit T (l .book) n false (u ++ (b ∷ [])) es)
         → CutFed T l
         (fedAll T
-        (cond c (within l false u)
-        (cond d (outOfOrder (within l a u))
-        (cond w (record { log = applied T (withAfterCr l a) u b; raw = [] }) (within l false (u ++ (b ∷ []))))))
+        (cond c (logWithin l false u)
+        (cond d (outOfOrder (logWithin l a u))
+        (cond w (record { log = applied T (withAfterCr l a) u b; raw = [] }) (logWithin l false (u ++ (b ∷ []))))))
         es)
         (suc (length es))
         (cond c (cutUnit T (l .book) n false u es) (cond d outOfTurn (cond w (unit u b a es) (cutUnit T (l .book) n false (u ++ (b ∷ [])) es))))
-    go true d w h k = one-more T l (fedAll T (within l false u) es) (length es) (cutUnit T (l .book) n false u es) h
+    go true d w h k = one-more T l (fedAll T (logWithin l false u) es) (length es) (cutUnit T (l .book) n false u es) h
     go false true w h k = ended-stays T es l a []
     go false false true h k = (refl, omega arith)
-    go false false false h k = one-more T l (fedAll T (within l false (u ++ (b ∷ []))) es) (length es) (cutUnit T (l .book) n false (u ++ (b ∷ [])) es) k
+    go false false false h k = one-more T l (fedAll T (logWithin l false (u ++ (b ∷ []))) es) (length es) (cutUnit T (l .book) n false (u ++ (b ∷ [])) es) k
 cut-fed T l (gave b ∷ es) a u = go (isOurs n) (whole T (l .book) n u b) (cut-fed T l es a (u ++ (b ∷ [])))
   where
     n : Next
     n = l .course .next
 
-    go : (d w : Bool) → CutFed T l (fedAll T (within l a (u ++ (b ∷ []))) es) (length es) (cutUnit T (l .book) n a (u ++ (b ∷ [])) es)
+    go : (d w : Bool) → CutFed T l (fedAll T (logWithin l a (u ++ (b ∷ []))) es) (length es) (cutUnit T (l .book) n a (u ++ (b ∷ [])) es)
         → CutFed T l
         (fedAll T
-        (cond d (cond w (record { log = applied T (withAfterCr l a) u b; raw = [] }) (within l a (u ++ (b ∷ [])))) (outOfOrder (within l a u)))
+        (cond d (cond w (record { log = applied T (withAfterCr l a) u b; raw = [] }) (logWithin l a (u ++ (b ∷ [])))) (outOfOrder (logWithin l a u)))
         es)
         (suc (length es))
         (cond d (cond w (unit u b a es) (cutUnit T (l .book) n a (u ++ (b ∷ [])) es)) outOfTurn)
     go true true h = (refl, omega arith)
-    go true false h = one-more T l (fedAll T (within l a (u ++ (b ∷ []))) es) (length es) (cutUnit T (l .book) n a (u ++ (b ∷ [])) es) h
+    go true false h = one-more T l (fedAll T (logWithin l a (u ++ (b ∷ []))) es) (length es) (cutUnit T (l .book) n a (u ++ (b ∷ [])) es) h
     go false w h = ended-stays T es l a []
 
 -- so many units as there are events are enough
@@ -126,14 +126,14 @@ fed-append T [] ys f = refl
 fed-append T (x ∷ xs) ys f = fed-append T xs ys (fedByte T f x)
 
 -- an LF that Lines drops is no byte of a unit
-pub lf-dropped : (T : List Record) (l : Log) (u : Bytes) → l .afterCr ≡ true → fedByte T (record { log = l; raw = u }) (took LF) ≡ within l false u
+pub lf-dropped : (T : List Record) (l : Log) (u : Bytes) → l .afterCr ≡ true → fedByte T (record { log = l; raw = u }) (took LF) ≡ logWithin l false u
 lf-dropped T l u h = rw h
 
 -- ---------------------------------------------------------------- one unit
 
 -- bytes of the side whose unit is next
-abbrev pub bytesOf : Next → Bytes → List Event
-bytesOf n bs = map (λ (b : ℕ). cond (isOurs n) (gave b) (took b)) bs
+abbrev pub bytesOfSide : Next → Bytes → List Event
+bytesOfSide n bs = map (λ (b : ℕ). cond (isOurs n) (gave b) (took b)) bs
 
 -- no LF would be dropped from them
 abbrev pub NoLf : Log → Type 0
@@ -157,20 +157,20 @@ unit-byte T l u b h = go (isOurs (l .course .next)) refl (l .afterCr) refl h
 
 -- NOTHING HAS AN EFFECT BEFORE ITS LAST BYTE
 pub grows : (T : List Record) (l : Log) (v u : Bytes) → NoLf l → NotYet T (l .book) (l .course .next) u v
-    → fedAll T (record { log = l; raw = u }) (bytesOf (l .course .next) v) ≡ record { log = l; raw = u ++ v }
+    → fedAll T (record { log = l; raw = u }) (bytesOfSide (l .course .next) v) ≡ record { log = l; raw = u ++ v }
 grows T l [] u h k = rw (append-nil u)
 grows T l (b ∷ v) u h k =
-    ap (λ (f : Fed). fedAll T f (bytesOf (l .course .next) v)) (unit-byte T l u b h ∙ rw (k .0))
+    ap (λ (f : Fed). fedAll T f (bytesOfSide (l .course .next) v)) (unit-byte T l u b h ∙ rw (k .0))
     ∙ grows T l v (u ++ (b ∷ [])) h (k .1)
     ∙ rw (snoc-cons u v b)
 
 -- A WHOLE UNIT HAS EXACTLY ITS EFFECT
 pub unit-fed : (T : List Record) (l : Log) (u : Bytes) (b : ℕ) → NoLf l → NotYet T (l .book) (l .course .next) [] u → whole T (l .book) (l .course .next) u b ≡ true
-    → fedAll T (record { log = l; raw = [] }) (bytesOf (l .course .next) (u ++ (b ∷ []))) ≡ record { log = applied T l u b; raw = [] }
+    → fedAll T (record { log = l; raw = [] }) (bytesOfSide (l .course .next) (u ++ (b ∷ []))) ≡ record { log = applied T l u b; raw = [] }
 unit-fed T l u b h k w =
     ap (fedAll T (record { log = l; raw = [] })) (map-append (λ (c : ℕ). cond (isOurs (l .course .next)) (gave c) (took c)) u (b ∷ []))
-    ∙ fed-append T (bytesOf (l .course .next) u) (bytesOf (l .course .next) (b ∷ [])) (record { log = l; raw = [] })
-    ∙ ap (λ (f : Fed). fedAll T f (bytesOf (l .course .next) (b ∷ []))) (grows T l u [] h k)
+    ∙ fed-append T (bytesOfSide (l .course .next) u) (bytesOfSide (l .course .next) (b ∷ [])) (record { log = l; raw = [] })
+    ∙ ap (λ (f : Fed). fedAll T f (bytesOfSide (l .course .next) (b ∷ []))) (grows T l u [] h k)
     ∙ unit-byte T l u b h
     ∙ rw w
 
@@ -189,12 +189,12 @@ line-yet T k n (x ∷ ln) u h c = (line-whole T k n u x h ∙ c .0, line-yet T k
 
 -- before a line's CR, nothing
 pub line-part-fed : (T : List Record) (l : Log) (ln : Bytes) → NoLf l → Lined (l .course .next) → Lacks CR ln
-    → fedAll T (record { log = l; raw = [] }) (bytesOf (l .course .next) ln) ≡ record { log = l; raw = ln }
+    → fedAll T (record { log = l; raw = [] }) (bytesOfSide (l .course .next) ln) ≡ record { log = l; raw = ln }
 line-part-fed T l ln h k c = grows T l ln [] h (line-yet T (l .book) (l .course .next) ln [] k c)
 
 -- a whole line, of either side
 pub line-fed : (T : List Record) (l : Log) (ln : Bytes) → NoLf l → Lined (l .course .next) → Lacks CR ln
-    → fedAll T (record { log = l; raw = [] }) (bytesOf (l .course .next) (withCr ln)) ≡ record { log = applied T l ln CR; raw = [] }
+    → fedAll T (record { log = l; raw = [] }) (bytesOfSide (l .course .next) (withCr ln)) ≡ record { log = applied T l ln CR; raw = [] }
 line-fed T l ln h k c = unit-fed T l ln CR h (line-yet T (l .book) (l .course .next) ln [] k c) (line-whole T (l .book) (l .course .next) ln CR k)
 
 -- ---------------------------------------------------------------- no whole transfer begins another

@@ -46,18 +46,18 @@ isEquals decline = false
 isEquals defer = true
 
 -- Those to which the line gives such a sign, in order: "one sign a proposal"
-abbrev pub given : {A : Type 0} → (Sign → Bool) → List Sign → List A → List A
-given such [] xs = []
-given such (s ∷ ss) [] = []
-given such (s ∷ ss) (x ∷ xs) = cond (such s) (x ∷ given such ss xs) (given such ss xs)
+abbrev pub givenSign : {A : Type 0} → (Sign → Bool) → List Sign → List A → List A
+givenSign such [] xs = []
+givenSign such (s ∷ ss) [] = []
+givenSign such (s ∷ ss) (x ∷ xs) = cond (such s) (x ∷ givenSign such ss xs) (givenSign such ss xs)
 
 -- "the accepted transfers in order"
 abbrev pub acceptedBy : {A : Type 0} → List Sign → List A → List A
-acceptedBy ss xs = given isPlus ss xs
+acceptedBy ss xs = givenSign isPlus ss xs
 
 -- "The partner's makes declined records 2."
 abbrev pub declinedBy : List Sign → List ℕ → List ℕ → List ℕ
-declinedBy ss is st = madeFrom 0 stateDeclined (given isMinus ss is) st
+declinedBy ss is st = madeFrom 0 stateDeclined (givenSign isMinus ss is) st
 
 -- ---------------------------------------------------------------- our proposals
 
@@ -88,8 +88,8 @@ withAnswers ss is a =
       sent = a .sent;
       proposed = a .proposed;
       forwarded = a .forwarded;
-      declined = a .declined + length (given isMinus ss is);
-      deferred = a .deferred + length (given isEquals ss is);
+      declined = a .declined + length (givenSign isMinus ss is);
+      deferred = a .deferred + length (givenSign isEquals ss is);
     }
 
 -- The partner's turn forwards every sent record. They are then forgotten; 01 does not say so, and it comes to the same: a state set to 1 stays 1, as

@@ -5,7 +5,7 @@ use mathlib.Core.Option.{none, some}
 use Prim.Native.Nat.{ℕ}
 use Rattle.grammar.specs.Bytes.{Bytes}
 use Rattle.grammar.specs.Fields.{digit, readFrom, field}
-use Rattle.grammar.proofs.Basics.{told, told-not}
+use Rattle.grammar.proofs.Basics.{not-told, told-not}
 use Rattle.byte.specs.Classes.{classOf}
 use Rattle.byte.specs.declared.Class.{Class}
 use Rattle.pages.specs.Fields.{isLong, readLong, longDigits}
@@ -17,7 +17,7 @@ class-digits s r e = e
 
 module _ (s : Bytes) (r : Bool) (e : r ≡ field (classOf Class.Digit) longDigits s) where
   is-long : not r ≡ false → isLong s ≡ true
-  is-long k = told (class-digits s r e) k
+  is-long k = not-told (class-digits s r e) k
 
   pub long-digits : not r ≡ false → field digit longDigits s ≡ true
   unfolding isLong

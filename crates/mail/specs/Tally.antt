@@ -11,9 +11,9 @@ use Rattle.mail.specs.Mail.{Record}
 -- ---------------------------------------------------------------- what waits
 
 -- "how many records wait"
-abbrev pub waits : List ℕ → ℕ
-waits [] = 0
-waits (x ∷ st) = cond (eqb x stateWaiting) (suc (waits st)) (waits st)
+abbrev pub waitingCount : List ℕ → ℕ
+waitingCount [] = 0
+waitingCount (x ∷ st) = cond (eqb x stateWaiting) (suc (waitingCount st)) (waitingCount st)
 
 -- "and the sum of their announced sizes"
 abbrev pub waitingBytes : List Record → List ℕ → ℕ

@@ -11,8 +11,8 @@ use Rattle.grammar.specs.Answers.{accept, decline}
 use Rattle.grammar.proofs.Basics.{or2, or-left, or-right, no-both, not-so}
 use Rattle.mail.specs.Mail.{Record, Message}
 use Rattle.log.specs.Log.{Event, Course, Book, Log, applied, Cut, notWhole, outOfTurn, unit, cutUnit, withAfterCr, afterCut, logUnits, owes}
-use Rattle.main_theorem.specs.Deeds.{Deed, answered, sent, turned, weAnswered, nothing, brought, deedOf, deedsCut, deedsFrom, gives, wasDeclined, thenTurned, sentThenTurned, wasForwarded, Fate, messagesBrought}
-use Rattle.log.specs.Effects.{oneOf, isMinus, given}
+use Rattle.main_theorem.specs.Deeds.{Deed, answered, sent, turned, weAnswered, nothing, brought, deedOf, deedsCut, deedsFrom, givesSign, wasDeclined, thenTurned, sentThenTurned, wasForwarded, Fate, messagesBrought}
+use Rattle.log.specs.Effects.{oneOf, isMinus, givenSign}
 use Rattle.phase.specs.Phase.{stateWaiting, stateForwarded, stateDeclined}
 use Rattle.log.proofs.Effects.{made-length, made-other, made-here}
 use Rattle.main_theorem.proofs.DeedStates.{one-append, accepted-one, declined-one}
@@ -21,14 +21,14 @@ use Rattle.main_theorem.proofs.Deeds.{Does, unit-does}
 -- ---------------------------------------------------------------- states that stay
 
 -- no state but 0 changes from st to st′
-abbrev pub Keeps : List ℕ → List ℕ → Type 0
-Keeps st st′ = (i : ℕ) → (getD st i 0 ≡ stateWaiting → ⊥) → getD st′ i 0 ≡ getD st i 0
+abbrev pub MarksStand : List ℕ → List ℕ → Type 0
+MarksStand st st′ = (i : ℕ) → (getD st i 0 ≡ stateWaiting → ⊥) → getD st′ i 0 ≡ getD st i 0
 
 -- from unit to unit
 abbrev pub KeepsCut : List Record → Log → (Log → List Event → Type 0) → Cut → Type 0
 KeepsCut T l on notWhole = Unit {0}
 KeepsCut T l on outOfTurn = Unit {0}
-KeepsCut T l on (unit u b a rest) = Keeps (l .book .states) (applied T (withAfterCr l a) u b .book .states) × on (applied T (withAfterCr l a) u b) rest
+KeepsCut T l on (unit u b a rest) = MarksStand (l .book .states) (applied T (withAfterCr l a) u b .book .states) × on (applied T (withAfterCr l a) u b) rest
 
 abbrev pub KeepsUnits : ℕ → List Record → Log → List Event → Type 0
 KeepsUnits zero T l es = Unit {0}
@@ -37,7 +37,7 @@ KeepsUnits (suc n) T l es = KeepsCut T l (λ m rest. KeepsUnits n T m rest) (cut
 -- what holds of the deeds to come, the book at the end, and course and book now: from unit to unit, from the end
 module _ (T : List Record) (P : List Deed → Book → Course → Book → Type 0)
     (stop : (c : Course) (k : Book) → P [] k c k)
-    (more : (d : Deed) (ds : List Deed) (e : Book) (c : Course) (k : Book) (c′ : Course) (k′ : Book) → Does d c k c′ k′ → Keeps (k .states) (k′ .states) → P ds e c′ k′ → P (d ∷ ds) e c k) where
+    (more : (d : Deed) (ds : List Deed) (e : Book) (c : Course) (k : Book) (c′ : Course) (k′ : Book) → Does d c k c′ k′ → MarksStand (k .states) (k′ .states) → P ds e c′ k′ → P (d ∷ ds) e c k) where
   pub by-units : (n : ℕ) (es : List Event) (l : Log) → KeepsUnits n T l es → P (deedsFrom n T l es) (logUnits n T l es .book) (l .course) (l .book)
   by-units zero es l k = stop (l .course) (l .book)
   by-units (suc n) es l k = go (cutUnit T (l .book) (l .course .next) (l .afterCr) [] es) k (λ m rest. by-units n rest m)
@@ -82,7 +82,7 @@ module _ (i : ℕ) where
         rests = λ w v x y. refl;
       }
 
-  module _ (ds : List Deed) (e : Book) (c : Course) (k : Book) (c′ : Course) (k′ : Book) (keeps : Keeps (k .states) (k′ .states)) (ih : Becomes ds e c′ k′) where
+  module _ (ds : List Deed) (e : Book) (c : Course) (k : Book) (c′ : Course) (k′ : Book) (keeps : MarksStand (k .states) (k′ .states)) (ih : Becomes ds e c′ k′) where
     last-before : (at k ≡ stateWaiting → ⊥) → at e ≡ at k
     last-before h = let f = keeps i h in ih .last (λ z. h (sym f ∙ z)) ∙ f
 
@@ -152,24 +152,24 @@ module _ (i : ℕ) where
             ap (λ (t : Bool). t && thenTurned ds) (sym r) ∙ or2 (eqb i j && thenTurned ds) (sentThenTurned i ds) (y (ap (oneOf i) o ∙ or-left (eqb i j) (oneOf i (owes (c′ .next))) r)) .0
         sent-turned false false p r x y z o = never z
     by-deed (answered is ss) q =
-        let len : i < length (k .states) → i < length (k′ .states) = λ h. subst (λ (x : ℕ). i < x) (sym (ap length (q .0) ∙ made-length 0 stateDeclined (given isMinus ss is) (k .states))) h in
+        let len : i < length (k .states) → i < length (k′ .states) = λ h. subst (λ (x : ℕ). i < x) (sym (ap length (q .0) ∙ made-length 0 stateDeclined (givenSign isMinus ss is) (k .states))) h in
         record {
           last = last-before;
-          declines = λ h w. now-declined (gives decline i is ss) refl h (len h) w;
+          declines = λ h w. now-declined (givesSign decline i is ss) refl h (len h) w;
           turns = λ h w v. ih .turns (len h) (ap (oneOf i) (q .1) ∙ w) v;
           sends = λ h w. ih .sends (len h) w;
-          forwards = λ h w. now-accepted (gives accept i is ss) (sentThenTurned i ds) refl (len h) w;
+          forwards = λ h w. now-accepted (givesSign accept i is ss) (sentThenTurned i ds) refl (len h) w;
           rests = λ w v x y.
-              let a = or2 (gives decline i is ss) (wasDeclined i ds) w in
-              let b = or2 (gives accept i is ss && sentThenTurned i ds) (wasForwarded i ds) v in
+              let a = or2 (givesSign decline i is ss) (wasDeclined i ds) w in
+              let b = or2 (givesSign accept i is ss && sentThenTurned i ds) (wasForwarded i ds) v in
               ih .rests (a .1) (b .1) (λ z. x (ap (oneOf i) (sym (q .1)) ∙ z))
               (λ z. ap (λ (t : Bool). t && sentThenTurned i ds) (sym (sym (accepted-one i ss is) ∙ ap (oneOf i) (sym (q .2)) ∙ z)) ∙ b .0)
-              ∙ ap (λ (st : List ℕ). getD st i 0) (q .0) ∙ made-other stateDeclined (given isMinus ss is) (k .states) i (declined-one i ss is ∙ a .0);
+              ∙ ap (λ (st : List ℕ). getD st i 0) (q .0) ∙ made-other stateDeclined (givenSign isMinus ss is) (k .states) i (declined-one i ss is ∙ a .0);
         }
       where
-        now-declined : (b : Bool) → gives decline i is ss ≡ b → i < length (k .states) → i < length (k′ .states) → b || wasDeclined i ds ≡ true → at e ≡ stateDeclined
+        now-declined : (b : Bool) → givesSign decline i is ss ≡ b → i < length (k .states) → i < length (k′ .states) → b || wasDeclined i ds ≡ true → at e ≡ stateDeclined
         now-declined true g h l w =
-            let f : at k′ ≡ stateDeclined = ap (λ (st : List ℕ). getD st i 0) (q .0) ∙ made-here stateDeclined (given isMinus ss is) (k .states) i (declined-one i ss is ∙ g) h in
+            let f : at k′ ≡ stateDeclined = ap (λ (st : List ℕ). getD st i 0) (q .0) ∙ made-here stateDeclined (givenSign isMinus ss is) (k .states) i (declined-one i ss is ∙ g) h in
             ih .last (λ z. omega arith) ∙ f
         now-declined false g h l w = ih .declines l w
 
@@ -178,7 +178,7 @@ module _ (i : ℕ) where
         now-accepted true false g l w = ih .forwards l w
         now-accepted false b g l w = ih .forwards l w
 
-  becomes : (d : Deed) (ds : List Deed) (e : Book) (c : Course) (k : Book) (c′ : Course) (k′ : Book) → Does d c k c′ k′ → Keeps (k .states) (k′ .states)
+  becomes : (d : Deed) (ds : List Deed) (e : Book) (c : Course) (k : Book) (c′ : Course) (k′ : Book) → Does d c k c′ k′ → MarksStand (k .states) (k′ .states)
       → Becomes ds e c′ k′ → Becomes (d ∷ ds) e c k
   becomes d ds e c k c′ k′ q keeps ih = by-deed ds e c k c′ k′ keeps ih d q
 

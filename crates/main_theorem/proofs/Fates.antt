@@ -15,14 +15,14 @@ use Rattle.session.specs.Session.{Session, Stepped, step, ended, opened}
 use Rattle.session.specs.Calls.{oneMore, stoppedAt, stops, receiveOn, receive, give, handedOut}
 use Rattle.log.specs.Log.{Event, took, gave, ourGreeting, theirSid, Next, theySay, Book, Log, isOurs, ourUnit, theirUnit, whole, applied, Cut, notWhole, outOfTurn, unit, cutUnit, withAfterCr, withCourse, weOpen, logOpened, log, owes}
 use Rattle.log.specs.Fed.{Fed, unitByte, outOfOrder, fedByte, fedAll}
-use Rattle.log.proofs.Units.{within, fedOpened, fed-append}
+use Rattle.log.proofs.Units.{logWithin, fedOpened, fed-append}
 use Rattle.demand3.specs.Demand.{Call, receiving, giving, refusedCall, run, GoodTable}
-use Rattle.demand3.proofs.Choice.{Sound, sound}
+use Rattle.demand3.proofs.Choice.{SoundChoice, sound}
 use Rattle.demand3.proofs.Inv.{Inv, inv-book, give-inv}
 use Rattle.demand3.proofs.Step.{step-inv}
 use Rattle.demand3.proofs.Demand.{open-inv}
 use Rattle.main_theorem.specs.Deeds.{deeds, Fate, messagesBrought}
-use Rattle.main_theorem.proofs.Becomes.{Keeps, KeepsCut, KeepsUnits, fate-law, kept-law}
+use Rattle.main_theorem.proofs.Becomes.{MarksStand, KeepsCut, KeepsUnits, fate-law, kept-law}
 use Rattle.main_theorem.proofs.Once.{Sends, step-once}
 
 -- ---------------------------------------------------------------- byte by byte
@@ -33,7 +33,7 @@ statesIn f = f .log .book .states
 -- every byte of the trace keeps every state but 0
 abbrev KeepsAll : List Record → Fed → List Event → Type 0
 KeepsAll T f [] = Unit {0}
-KeepsAll T f (e ∷ es) = Keeps (statesIn f) (statesIn (fedByte T f e)) × KeepsAll T (fedByte T f e) es
+KeepsAll T f (e ∷ es) = MarksStand (statesIn f) (statesIn (fedByte T f e)) × KeepsAll T (fedByte T f e) es
 
 keeps-append : (T : List Record) (xs ys : List Event) (f : Fed) → KeepsAll T f xs → KeepsAll T (fedAll T f xs) ys → KeepsAll T f (xs ++ ys)
 keeps-append T [] ys f h k = k
@@ -62,7 +62,7 @@ gave-keep T (b ∷ o) f =
 
 -- ---------------------------------------------------------------- the calls
 
-module _ (E : Shelf) (S : Sound E) where
+module _ (E : Shelf) (S : SoundChoice E) where
   abbrev T : List Record
   T = E .table
 
@@ -81,12 +81,12 @@ module _ (E : Shelf) (S : Sound E) where
       }
 
   -- one byte
-  byte-keeps : (s : Session) (f : Fed) (b : ℕ) → ended s ≡ false → Inv E s f → Sends (s .phase) (s .memory) → Keeps (statesIn f) (statesIn (fedByte T f (took b)))
+  byte-keeps : (s : Session) (f : Fed) (b : ℕ) → ended s ≡ false → Inv E s f → Sends (s .phase) (s .memory) → MarksStand (statesIn f) (statesIn (fedByte T f (took b)))
   byte-keeps s f b e h w =
       let p : statesIn f ≡ s .memory .states = ap (λ (k : Book). k .states) (inv-book h) in
       let q : statesIn (fedByte T f (took b)) ≡ step E s b .session .memory .states = ap (λ (k : Book). k .states) (inv-book (step-inv E S s f b e h)) in
-      subst (λ (x : List ℕ). Keeps x (statesIn (fedByte T f (took b)))) (sym p)
-      (subst (λ (x : List ℕ). Keeps (s .memory .states) x) (sym q) (step-once E s w b .keeps))
+      subst (λ (x : List ℕ). MarksStand x (statesIn (fedByte T f (took b)))) (sym p)
+      (subst (λ (x : List ℕ). MarksStand (s .memory .states) x) (sym q) (step-once E s w b .keeps))
 
   receive-on : (bs : Bytes) (s : Session) (f : Fed) → ended s ≡ false → Inv E s f → Sends (s .phase) (s .memory)
       → Went f (map took (take (receiveOn E s bs .count) bs)) (receiveOn E s bs .session)
@@ -140,9 +140,9 @@ abbrev KeepsAfter : List Record → Log → Cut → Type 0
 KeepsAfter T l notWhole = Unit {0}
 KeepsAfter T l outOfTurn = Unit {0}
 KeepsAfter T l (unit u b a rest) =
-    Keeps (l .book .states) (applied T (withAfterCr l a) u b .book .states) × KeepsAll T (record { log = applied T (withAfterCr l a) u b; raw = [] }) rest
+    MarksStand (l .book .states) (applied T (withAfterCr l a) u b .book .states) × KeepsAll T (record { log = applied T (withAfterCr l a) u b; raw = [] }) rest
 
-cut-keeps : (T : List Record) (l : Log) (es : List Event) (a : Bool) (u : Bytes) → KeepsAll T (within l a u) es → KeepsAfter T l (cutUnit T (l .book) (l .course .next) a u es)
+cut-keeps : (T : List Record) (l : Log) (es : List Event) (a : Bool) (u : Bytes) → KeepsAll T (logWithin l a u) es → KeepsAfter T l (cutUnit T (l .book) (l .course .next) a u es)
 cut-keeps T l [] a u h = tt
 cut-keeps T l (took b ∷ es) a u h =
     go (a && eqb b LF) (isOurs n) (whole T (l .book) n u b) h (cut-keeps T l es false u) (cut-keeps T l es false (u ++ (b ∷ [])))
@@ -152,12 +152,12 @@ cut-keeps T l (took b ∷ es) a u h =
 
     fed : Bool → Bool → Bool → Fed
     fed c d w =
-        cond c (within l false u)
-        (cond d (outOfOrder (within l a u)) (cond w (record { log = applied T (withAfterCr l a) u b; raw = [] }) (within l false (u ++ (b ∷ [])))))
+        cond c (logWithin l false u)
+        (cond d (outOfOrder (logWithin l a u)) (cond w (record { log = applied T (withAfterCr l a) u b; raw = [] }) (logWithin l false (u ++ (b ∷ [])))))
 
-    go : (c d w : Bool) → Keeps (l .book .states) (statesIn (fed c d w)) × KeepsAll T (fed c d w) es
-        → (KeepsAll T (within l false u) es → KeepsAfter T l (cutUnit T (l .book) n false u es))
-        → (KeepsAll T (within l false (u ++ (b ∷ []))) es → KeepsAfter T l (cutUnit T (l .book) n false (u ++ (b ∷ [])) es))
+    go : (c d w : Bool) → MarksStand (l .book .states) (statesIn (fed c d w)) × KeepsAll T (fed c d w) es
+        → (KeepsAll T (logWithin l false u) es → KeepsAfter T l (cutUnit T (l .book) n false u es))
+        → (KeepsAll T (logWithin l false (u ++ (b ∷ []))) es → KeepsAfter T l (cutUnit T (l .book) n false (u ++ (b ∷ [])) es))
         → KeepsAfter T l (cond c (cutUnit T (l .book) n false u es) (cond d outOfTurn (cond w (unit u b a es) (cutUnit T (l .book) n false (u ++ (b ∷ [])) es))))
     go true d w h i j = i (h .1)
     go false true w h i j = tt
@@ -169,10 +169,10 @@ cut-keeps T l (gave b ∷ es) a u h = go (isOurs n) (whole T (l .book) n u b) h 
     n = l .course .next
 
     fed : Bool → Bool → Fed
-    fed d w = cond d (cond w (record { log = applied T (withAfterCr l a) u b; raw = [] }) (within l a (u ++ (b ∷ [])))) (outOfOrder (within l a u))
+    fed d w = cond d (cond w (record { log = applied T (withAfterCr l a) u b; raw = [] }) (logWithin l a (u ++ (b ∷ [])))) (outOfOrder (logWithin l a u))
 
-    go : (d w : Bool) → Keeps (l .book .states) (statesIn (fed d w)) × KeepsAll T (fed d w) es
-        → (KeepsAll T (within l a (u ++ (b ∷ []))) es → KeepsAfter T l (cutUnit T (l .book) n a (u ++ (b ∷ [])) es))
+    go : (d w : Bool) → MarksStand (l .book .states) (statesIn (fed d w)) × KeepsAll T (fed d w) es
+        → (KeepsAll T (logWithin l a (u ++ (b ∷ []))) es → KeepsAfter T l (cutUnit T (l .book) n a (u ++ (b ∷ [])) es))
         → KeepsAfter T l (cond d (cond w (unit u b a es) (cutUnit T (l .book) n a (u ++ (b ∷ [])) es)) outOfTurn)
     go true true h j = h
     go true false h j = j (h .1)

@@ -28,7 +28,7 @@ use Rattle.pending.specs.Pending.{waits, silentOf}
 use Rattle.give.specs.Giving.{Given, reply, handedOf, handing, giveOf}
 use Rattle.receive_defined.specs.Receiving.{Cs, cs}
 use Rattle.form_closed.specs.Fixed.{Fixed}
-use Rattle.represents.specs.Represents.{Says, Awaits, Represents}
+use Rattle.represents.specs.Represents.{StillToGive, Awaits, Represents}
 use Rattle.represents.specs.Frame.{Spared}
 use Rattle.main_theorem.specs.Calls.{Lent, withSession, given}
 use Rattle.represents.proofs.Byte.{waits-law}
@@ -81,7 +81,7 @@ module _ (F : Fixed) (E : Shelf) (c : Cs) (first then pos : ℕ) where
   awaits-still on-lists.leaving a = a
   awaits-still on-lists.over a = a
 
-  resaid : (s : on-lists.Session) (o : Bytes) → Represents F E c s → Says F (csSaying c first then pos) o → Represents F E (csSaying c first then pos) (withOut s o)
+  resaid : (s : on-lists.Session) (o : Bytes) → Represents F E c s → StillToGive F (csSaying c first then pos) o → Represents F E (csSaying c first then pos) (withOut s o)
   resaid s o h y =
       record {
         standing = record { entries = h .standing .entries; holds = h .standing .holds; says = y; awaits = awaits-still (s .phase) (h .standing .awaits); part = h .standing .part; afterCr = h .standing .afterCr };

@@ -13,7 +13,7 @@ use Rattle.grammar.proofs.Basics.{or2, no-both}
 use Rattle.session.specs.Choices.{Shelf, chosen}
 use Rattle.session.specs.Session as on-lists
 use Rattle.session.specs.Session.{Phase}
-use Rattle.session.proofs.Ways.{Passes, toEnd, toTurn, toAnswer, toTransfer, our-turn, our-answer, Judged, isWrong, hearsSid, hearsText, hearsPrompt, hearsProposal, hearsFF, hearsFQ, hearsEnd, hearsFs, Way, isRefused, dropsLf, growsLine, ignoresLine, hearsLine, readsOn, readsLast, way}
+use Rattle.session.proofs.Ways.{Passes, toEnd, toTurn, toAnswer, toTransfer, our-turn, our-answer, LineOutcome, isWrong, hearsSid, hearsText, hearsPrompt, hearsProposal, hearsFF, hearsFQ, hearsEnd, hearsFs, Way, isRefused, dropsLf, growsLine, ignoresLine, hearsLine, readsOn, readsLast, way}
 use Rattle.session.specs.Calls as calls
 use Rattle.demand2.specs.Reached.{Reached, soFarWith}
 use Rattle.demand2.specs.Reached as reached
@@ -36,7 +36,7 @@ passes-keeps E m n o (toTurn x) e = e
 passes-keeps E m n o (toAnswer x i is f) e = e
 passes-keeps E m n o (toTransfer x p ps) e = e
 
-judged-keeps : (E : Shelf) (m : on-lists.Memory) (ln : Bytes) (a : on-lists.Awaited) (o : on-lists.Outcome) → Judged E m ln a o → Keeps m o
+judged-keeps : (E : Shelf) (m : on-lists.Memory) (ln : Bytes) (a : on-lists.Awaited) (o : on-lists.Outcome) → LineOutcome E m ln a o → Keeps m o
 judged-keeps E m ln a o (isWrong n w) = tt
 judged-keeps E m ln a o (hearsSid c fs r f) = refl
 judged-keeps E m ln a o (hearsText r) = refl

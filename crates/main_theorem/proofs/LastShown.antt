@@ -15,7 +15,7 @@ use Rattle.session.specs.Session as on-lists
 use Rattle.session.specs.Calls as calls
 use Rattle.session_memory.specs.declared.Sizes.{Sizes}
 use Rattle.give.specs.Giving.{Given}
-use Rattle.receive_defined.specs.Receiving.{Cs, Moved, byteOf, Run, run, stops, receiveFrom, Received, receiveOf}
+use Rattle.receive_defined.specs.Receiving.{Cs, Moved, byteOf, Run, runWith, stops, receiveFrom, Received, receiveOf}
 use Rattle.form_closed.specs.Fixed.{Fixed}
 use Rattle.represents.specs.Represents.{Represents}
 use Rattle.represents.specs.Frame.{Spared}
@@ -52,7 +52,7 @@ module _ (F : Fixed) (E : Shelf) (c₀ : Cs) where
   unfolding receiveFrom
   bytes-last c v n [] q g h p live = record { state = c; represents = h; spared = p; same = refl; within = g .box .within }
   bytes-last {nt} {ni} {ns} c v n (b ∷ bs) q g h p live =
-      subst (λ (e : Bool). Shown (cond e v (lastByte E (o .session) bs)) ((cond (stops x) (run (x .answer) (suc n) (x .cs)) more) .cs .store)) (same-stops F E c x o g′ k)
+      subst (λ (e : Bool). Shown (cond e v (lastByte E (o .session) bs)) ((cond (stops x) (runWith (x .answer) (suc n) (x .cs)) more) .cs .store)) (same-stops F E c x o g′ k)
       (go (stops x) refl (λ e. bytes-last (x .cs) (o .session) (suc n) bs (octets-rest q) g′ (k .represents) (spared-then c₀ c (x .cs) p (k .spared)) (lives e)))
     where
       x : Moved
@@ -74,7 +74,7 @@ module _ (F : Fixed) (E : Shelf) (c₀ : Cs) where
       lives e = (or2 (not (eqb (o .answer) 0)) (on-lists.ended (o .session)) (sym (same-stops F E c x o g′ k) ∙ e)) .1
 
       go : (e : Bool) → stops x ≡ e → (stops x ≡ false → Shown (lastByte E (o .session) bs) (more .cs .store))
-          → Shown (cond e v (lastByte E (o .session) bs)) ((cond e (run (x .answer) (suc n) (x .cs)) more) .cs .store)
+          → Shown (cond e v (lastByte E (o .session) bs)) ((cond e (runWith (x .answer) (suc n) (x .cs)) more) .cs .store)
       go true e f = record { state = c; represents = h; spared = p; same = sym (byte-stays c b (F .known) e); within = g .box .within }
       go false e f = f e
 

@@ -4,7 +4,7 @@ use mathlib.Core.Bool.{Bool, true, false}
 use Prim.Native.Nat.{ℕ, _*_, _%_, _≤_}
 use native.Mathlib.Omega.{arith}
 use lib.ListN.{length}
-use Rattle.grammar.specs.Bytes.{Bytes}
+use Rattle.grammar.specs.Bytes.{Bytes, fourByteValues}
 use Rattle.grammar.specs.Refusals.{noPlace}
 use Rattle.mail.specs.Mail.{recordLimit, placeLimit}
 use Rattle.session.specs.Session as on-lists
@@ -23,7 +23,7 @@ use Rattle.open.proofs.Accepted.{Before, open-passed, sizes-told}
 use Rattle.open.proofs.Begun.{Begun, begun-left}
 use Rattle.receive_defined.specs.Receiving.{Cs, cs}
 use Rattle.form_closed.specs.Fixed.{Fixed}
-use Rattle.represents.specs.Represents.{Says, Awaits, Represents, messagesOf}
+use Rattle.represents.specs.Represents.{StillToGive, Awaits, Represents, messagesOf}
 use Rattle.represents.specs.Frame.{Spared}
 use Rattle.main_theorem.specs.Calls.{Lent, OpenCall, lendingOf, fixedIn, lentIn, openedBy, isCaller, statesIn, sizesOf, withSession, Buffer}
 use Rattle.main_theorem.specs.Demand2.{shelfIn}
@@ -32,7 +32,7 @@ use Rattle.main_theorem.proofs.Held.{Held}
 use Rattle.main_theorem.proofs.Accepted.{table-good}
 use Rattle.form_closed.proofs.Closed.{open-closed}
 use Rattle.sheet.specs.Sheet.{noSheet}
-use Rattle.tally.specs.Tally.{sizesRange, waitingIn, sizesIn, counted}
+use Rattle.tally.specs.Tally.{waitingIn, sizesIn, counted}
 use Rattle.represents.proofs.Tallied.{sizes-law}
 use Rattle.form_closed.specs.InForm.{InForm}
 use Rattle.form_closed.specs.Columns.{partnerOf, OneColumn}
@@ -88,7 +88,7 @@ unfolding freshOf
 fresh-partner M = refl
 
 module _ (M : OpenCall) (a : Accepted M) where
-  greeting-says : (caller : Bool) → Says (F M) (cs (begins M caller) (M .table .bytes) (M .inbox .bytes) (M .store .bytes)) (on-lists.greeting caller)
+  greeting-says : (caller : Bool) → StillToGive (F M) (cs (begins M caller) (M .table .bytes) (M .inbox .bytes) (M .store .bytes)) (on-lists.greeting caller)
   unfolding freshOf waits waitingOf firstText thenText
   greeting-says true = refl
   greeting-says false = refl
@@ -120,7 +120,7 @@ module _ (M : OpenCall) (a : Accepted M) where
         };
         tally = record {
           waiting = refl;
-          sizes = ap (λ (n : ℕ). n % sizesRange) (sizes-law ((F M) .titles) ((F M) .names) ((F M) .bodies) (m M .table) (statesIn M));
+          sizes = ap (λ (n : ℕ). n % fourByteValues) (sizes-law ((F M) .titles) ((F M) .names) ((F M) .bodies) (m M .table) (statesIn M));
           sheet = record { proposed = refl; forwarded = refl; declined = refl; deferred = refl; balance = refl };
         };
       }

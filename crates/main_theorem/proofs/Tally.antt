@@ -8,11 +8,11 @@ use native.Mathlib.Omega.{arith}
 use lib.Dec.{eqb, ltb}
 use lib.ListN.{length}
 use borrow.Author.Tests.{leb-true, ltb-true}
-use Rattle.grammar.specs.Bytes.{Bytes, byteValues}
+use Rattle.grammar.specs.Bytes.{Bytes, byteValues, fourByteValues}
 use Rattle.grammar.specs.Turns.{isType, proposable, sizeValues}
 use Rattle.grammar.proofs.Basics.{and2}
 use Rattle.mail.specs.Mail.{Record, recordLimit, proposalOf}
-use Rattle.mail.specs.Tally.{Counts, waits, waitingBytes}
+use Rattle.mail.specs.Tally.{Counts, waitingCount, waitingBytes}
 use Rattle.session.specs.Session as on-lists
 use Rattle.log.specs.Log.{unsettled}
 use Rattle.demand3.specs.Demand as on-lists-run
@@ -26,7 +26,6 @@ use Rattle.marking.specs.States.{statesOf}
 use Rattle.marking.proofs.States.{states-length}
 use Rattle.session_memory.specs.State.{loadOf, loadTally}
 use Rattle.sheet.specs.declared.Sheet.{Sheet}
-use Rattle.tally.specs.Tally.{sizesRange}
 use Rattle.represents.specs.Tallies.{Tallies}
 use Rattle.form_closed.specs.Facts.{TallyOk}
 use Rattle.main_theorem.specs.Demand2.{callOf}
@@ -108,7 +107,7 @@ module _ (M : OpenCall) (e : openedBy M .reply .answer ≡ 0) (cs : CallsOn M) w
   unfolding loadOf
   good = in-order M e cs .tally
 
-  sizes-fit : waitingBytes (E M e cs .table) (after .memory .states) % sizesRange ≡ waitingBytes (E M e cs .table) (after .memory .states)
+  sizes-fit : waitingBytes (E M e cs .table) (after .memory .states) % fourByteValues ≡ waitingBytes (E M e cs .table) (after .memory .states)
   sizes-fit =
       let z = sizes-small (E M e cs .table) (after .memory .states) (open-as M e cs .good .fields) in
       let n = leb-true (length (E M e cs .table)) recordLimit (open-as M e cs .good .few) in
@@ -132,7 +131,7 @@ module _ (M : OpenCall) (e : openedBy M .reply .answer ≡ 0) (cs : CallsOn M) w
       let l = on-lists-tallied in
       let n = numbers in
       record {
-        waiting = tallies .waiting ∙ ap waits (l .states);
+        waiting = tallies .waiting ∙ ap waitingCount (l .states);
         sizes = tallies .sizes ∙ sizes-fit ∙ ap (waitingBytes (E M e cs .table)) (l .states);
         column = states-held M e cs ∙ l .states;
         proposed = n .proposed ∙ l .proposed;

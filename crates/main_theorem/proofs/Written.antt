@@ -22,7 +22,7 @@ use Rattle.form_closed.specs.Fixed.{Fixed}
 use Rattle.represents.specs.Represents.{lineNumber, Awaits, Represents}
 use Rattle.represents.specs.Frame.{reachOf, Spared}
 use Rattle.phase.specs.Phase.{phaseTransfer, phaseLeaving}
-use Rattle.main_theorem.specs.Store.{underWay, written}
+use Rattle.main_theorem.specs.Store.{underWay, bodiesWritten}
 use Rattle.represents.proofs.LineStep.{line-below}
 
 -- two parts that are known, and the rest
@@ -43,7 +43,7 @@ reach-at s n e = ap (λ (p : ℕ). s .keep .used + cond (ltb p phaseTransfer) 0 
 
 -- A SESSION THAT GOES ON: its store
 pub store-written : (F : Fixed) (E : Shelf) (c₀ c : Cs) (v : on-lists.Session) → c .session .keep .used ≤ length (c .store) → Represents F E c v → Spared c₀ c → on-lists.ended v ≡ false
-    → c .store ≡ written v ++ drop (length (written v)) (c₀ .store)
+    → c .store ≡ bodiesWritten v ++ drop (length (bodiesWritten v)) (c₀ .store)
 store-written F E c₀ c v w h p live = go (v .phase) refl (h .standing .awaits)
   where
     used : ℕ

@@ -106,15 +106,15 @@ sameSign defer decline = false
 sameSign defer defer = true
 
 -- The FS line gives this sign to the record at place i.
-abbrev pub gives : Sign → ℕ → List ℕ → List Sign → Bool
-gives g i [] ss = false
-gives g i (j ∷ js) [] = false
-gives g i (j ∷ js) (s ∷ ss) = (eqb i j && sameSign g s) || gives g i js ss
+abbrev pub givesSign : Sign → ℕ → List ℕ → List Sign → Bool
+givesSign g i [] ss = false
+givesSign g i (j ∷ js) [] = false
+givesSign g i (j ∷ js) (s ∷ ss) = (eqb i j && sameSign g s) || givesSign g i js ss
 
 -- "a valid FS line declined it"
 abbrev pub wasDeclined : ℕ → List Deed → Bool
 wasDeclined i [] = false
-wasDeclined i (answered is ss ∷ ds) = gives decline i is ss || wasDeclined i ds
+wasDeclined i (answered is ss ∷ ds) = givesSign decline i is ss || wasDeclined i ds
 wasDeclined i (sent j ∷ ds) = wasDeclined i ds
 wasDeclined i (turned ps ∷ ds) = wasDeclined i ds
 wasDeclined i (weAnswered ss ∷ ds) = wasDeclined i ds
@@ -144,7 +144,7 @@ sentThenTurned i (brought w x ∷ ds) = sentThenTurned i ds
 -- "a valid FS line accepted it"
 abbrev pub wasForwarded : ℕ → List Deed → Bool
 wasForwarded i [] = false
-wasForwarded i (answered is ss ∷ ds) = (gives accept i is ss && sentThenTurned i ds) || wasForwarded i ds
+wasForwarded i (answered is ss ∷ ds) = (givesSign accept i is ss && sentThenTurned i ds) || wasForwarded i ds
 wasForwarded i (sent j ∷ ds) = wasForwarded i ds
 wasForwarded i (turned ps ∷ ds) = wasForwarded i ds
 wasForwarded i (weAnswered ss ∷ ds) = wasForwarded i ds

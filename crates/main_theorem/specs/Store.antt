@@ -32,8 +32,8 @@ underWay leaving = []
 underWay over = []
 
 -- The bodies kept, one after another, then that message's.
-abbrev pub written : Session → Bytes
-written s = bodiesBytes (s .memory .inbox) ++ underWay (s .phase)
+abbrev pub bodiesWritten : Session → Bytes
+bodiesWritten s = bodiesBytes (s .memory .inbox) ++ underWay (s .phase)
 
 -- The session on lists just before the same calls ended it, or after them.
 abbrev pub lastOf : (M : OpenCall) → CallsOn M → Session
@@ -47,7 +47,7 @@ pub record StoreHolds (M : OpenCall) (cs : CallsOn M) : Type 0 where
   -- its messages kept are those of the inbox
   pub kept : messagesOf (finally M cs .inbox) (finally M cs .store) (messageCount (finally M cs)) ≡ lastOf M cs .memory .inbox
   -- THE STORE, from its first byte to its last: "the rest is untouched"
-  pub store : finally M cs .store ≡ written (lastOf M cs) ++ drop (length (written (lastOf M cs))) (M .store .bytes)
+  pub store : finally M cs .store ≡ bodiesWritten (lastOf M cs) ++ drop (length (bodiesWritten (lastOf M cs))) (M .store .bytes)
 
 abbrev pub StoreClaim : Type 0
 StoreClaim = (M : OpenCall) → openedBy M .reply .answer ≡ 0 → (cs : CallsOn M) → StoreHolds M cs

@@ -3,7 +3,7 @@ use mathlib.Core.Path.{_≡_}
 use mathlib.Core.List.{map}
 use Prim.Native.Nat.{ℕ, _+_, _≤_}
 use Rattle.mail.specs.Mail.{recordLimit}
-use Rattle.mail.specs.Tally.{waits, waitingBytes}
+use Rattle.mail.specs.Tally.{waitingCount, waitingBytes}
 use Rattle.log.specs.Effects.{Account}
 use Rattle.log.specs.Log.{Log, unsettled}
 use Rattle.demand3.specs.Tally.{logTold}
@@ -28,7 +28,7 @@ account M cs = toldLog M cs .course .account
 
 pub record Tallied (M : OpenCall) (cs : CallsOn M) : Type 0 where
   -- "how many records wait and the sum of their announced sizes": by the log, and in the partner's column of the table as it stands
-  pub waiting : shown M cs tallyWaitingAt ≡ waits (toldLog M cs .book .states)
+  pub waiting : shown M cs tallyWaitingAt ≡ waitingCount (toldLog M cs .book .states)
   pub sizes : le4At (finally M cs .sm) tallySizesAt ≡ waitingBytes (shelfIn M .table) (toldLog M cs .book .states)
   pub column : statesOf (M .partner) (finally M cs .table) ≡ toldLog M cs .book .states
   -- "records proposed, forwarded, declined, deferred"

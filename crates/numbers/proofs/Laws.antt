@@ -6,13 +6,13 @@ use mathlib.Core.List.{[], _∷_, _++_, append-assoc}
 use native.Mathlib.Omega.{arith}
 use lib.ListN.{length, take, drop, getD, length-append, length-drop, take-append-drop}
 use lib.Seq.{drop-append-le, drop-at, drop-drop, take-add, take-all, length-take-le, take-append-le, take-take, getD-take, getD-drop}
-use Rattle.grammar.specs.Bytes.{Bytes}
+use Rattle.grammar.specs.Bytes.{Bytes, flag}
 use Rattle.grammar.specs.Turns.{blockLimit}
 use Rattle.buffer.specs.Put.{wrote, putBytes}
 use Rattle.places.specs.Places.{numbersStart, lineLengthAt, tailAt, numbersEnd, numbersLen, arraysAt, freeLen, deferredLen, headingLen, lineLen, blockLen, deferredAt, headingAt, lineAt, blockAt, arraysLen, arraysEnd, sessionLen, fiveLen}
 use Rattle.layout.specs.Layout.{byteAt, le2, le4, le8}
 use Rattle.layout.proofs.Places.{put-fits}
-use Rattle.session_memory.specs.State.{at, flag, fiveOut, arrayAt, fiveAt, loadOf, loadAwait, loadSay, loadKeep, loadReading, loadLine, smallOut, numbersOut, tailOut, arraysOut, numberPart, saveOf}
+use Rattle.session_memory.specs.State.{cursorAt, fiveOut, arrayAt, fiveAt, loadOf, loadAwait, loadSay, loadKeep, loadReading, loadLine, smallOut, numbersOut, tailOut, arraysOut, numberPart, saveOf}
 use Rattle.session_memory.specs.declared.Five.{Five}
 use Rattle.session_memory.specs.declared.Say.{Say}
 use Rattle.session_memory.specs.declared.Terms.{Terms}
@@ -119,7 +119,7 @@ numbers-same h m = refl
 
 -- SAVING THE NUMBERS, where w stands in the place of the arrays, SAVES THE WHOLE SESSION
 pub save-whole : (sm : Bytes) (h : Numbers) (w : Bytes) → length sm ≡ sessionLen → length w ≡ arraysLen
-    → putBytes (lent arraysAt arraysLen sm w) (at numbersStart) (numberBytes h) ≡ saveOf sm (wholeOf h w)
+    → putBytes (lent arraysAt arraysLen sm w) (cursorAt numbersStart) (numberBytes h) ≡ saveOf sm (wholeOf h w)
 unfolding lent
 save-whole sm h w n k =
     let o = out-length h in
@@ -184,7 +184,7 @@ tail-length h = refl
 
 -- three texts, each written where the one before it ends, are put as one
 three-fit : (d : Bytes) (a i j : ℕ) (p q r : Bytes) → i ≡ a + length p → j ≡ i + length q → j + length r ≤ length d
-    → wrote (wrote (wrote d a p) i q) j r ≡ putBytes d (at a) (p ++ (q ++ r))
+    → wrote (wrote (wrote d a p) i q) j r ≡ putBytes d (cursorAt a) (p ++ (q ++ r))
 three-fit d a i j p q r e f h =
     let k : length (p ++ q) ≡ length p + length q = length-append p q in
     let two : wrote (wrote d a p) i q ≡ wrote d a (p ++ q) = rw e (wrote-wrote d a p q (omega arith)) in
@@ -194,7 +194,7 @@ three-fit d a i j p q r e f h =
 
 -- the parts of the numbers
 pub parts-saved : (sm : Bytes) (h : Numbers) {x y z e f g : Bytes} → length sm ≡ sessionLen → x ≡ smallBytes h → y ≡ largeBytes h → z ≡ tailBytes h
-    → e ≡ wrote sm numbersStart x → f ≡ wrote e lineLengthAt y → g ≡ wrote f tailAt z → g ≡ putBytes sm (at numbersStart) (numberBytes h)
+    → e ≡ wrote sm numbersStart x → f ≡ wrote e lineLengthAt y → g ≡ wrote f tailAt z → g ≡ putBytes sm (cursorAt numbersStart) (numberBytes h)
 unfolding numberBytes
 parts-saved sm h {x} {y} {z} n e₁ e₂ e₃ a b c =
     let k : length x ≡ lineLengthAt - numbersStart = ap length e₁ ∙ small-length h in
@@ -202,5 +202,5 @@ parts-saved sm h {x} {y} {z} n e₁ e₂ e₃ a b c =
     let m : length z ≡ numbersEnd - tailAt = ap length e₃ ∙ tail-length h in
     c ∙ ap (λ (w : Bytes). wrote w tailAt z) (b ∙ ap (λ (w : Bytes). wrote w lineLengthAt y) a)
     ∙ three-fit sm numbersStart lineLengthAt tailAt x y z (omega (arith, k)) (omega (arith, l)) (omega (arith, m, n))
-    ∙ ap (λ (w : Bytes). putBytes sm (at numbersStart) (w ++ (y ++ z))) e₁ ∙ ap (λ (w : Bytes). putBytes sm (at numbersStart) (smallBytes h ++ (w ++ z))) e₂
-    ∙ ap (λ (w : Bytes). putBytes sm (at numbersStart) (smallBytes h ++ (largeBytes h ++ w))) e₃
+    ∙ ap (λ (w : Bytes). putBytes sm (cursorAt numbersStart) (w ++ (y ++ z))) e₁ ∙ ap (λ (w : Bytes). putBytes sm (cursorAt numbersStart) (smallBytes h ++ (w ++ z))) e₂
+    ∙ ap (λ (w : Bytes). putBytes sm (cursorAt numbersStart) (smallBytes h ++ (largeBytes h ++ w))) e₃

@@ -17,9 +17,9 @@ ghost use Prim.Native.Nat.{_+_, _<_, _≤_};
 ghost use lib.ListN.{length};
 ghost use Rattle.buffer.specs.Put.{putBytes};
 ghost use Rattle.places.specs.Places.{numbersStart, sessionLen};
-ghost use Rattle.grammar.specs.Bytes.{twoByteValues};
+ghost use Rattle.grammar.specs.Bytes.{twoByteValues, flag};
 ghost use Rattle.grammar.specs.Turns.{blockLimit};
-ghost use Rattle.session_memory.specs.State.{at, flag, fiveAt, termsAt, sheetAt, loadTally};
+ghost use Rattle.session_memory.specs.State.{cursorAt, fiveAt, termsAt, sheetAt, loadTally};
 ghost use Rattle.numbers.specs.Whole.{awaitNumbers, sayNumbers, keepNumbers, readerNumbers, lineNumbers, numbersAt, smallBytes, largeBytes, tailBytes, numberBytes};
 
 // Where the numbers of more than one byte begin: the line's length is the first of them.
@@ -316,7 +316,7 @@ fn tail_bytes(h: Numbers) -> [u8; TAIL_LENGTH]
 // The numbers into session memory.
 pub fn save(sm: &mut [u8], h: Numbers)
     requires { ⌜ length (now sm) ≡ sessionLen ⌝ }
-    ensures { λ _. ⌜ now (sm .exit) ≡ putBytes (now (sm .entry)) (at numbersStart) (numberBytes h) ⌝ }
+    ensures { λ _. ⌜ now (sm .exit) ≡ putBytes (now (sm .entry)) (cursorAt numbersStart) (numberBytes h) ⌝ }
 {
     let small = small_bytes(h);
     let large = large_bytes(h);

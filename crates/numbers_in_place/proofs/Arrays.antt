@@ -14,7 +14,7 @@ use Rattle.places.specs.Places as places
 use Rattle.layout.specs.Layout.{byteAt}
 use Rattle.layout.proofs.Places.{byte-kept, part-kept}
 use Rattle.buffer.specs.Put.{putBytes}
-use Rattle.session_memory.specs.State.{at, arrayAt, loadTally, loadOf, saveOf}
+use Rattle.session_memory.specs.State.{cursorAt, arrayAt, loadTally, loadOf, saveOf}
 use Rattle.region.specs.Region.{region, lent}
 use Rattle.region.proofs.Laws.{region-length, set-in, set-before, set-after, lent-here, lent-before, lent-after}
 use Rattle.numbers.specs.declared.Numbers.{Numbers}
@@ -67,8 +67,8 @@ module _ (m w : Bytes) (n : length m ≡ arraysLen) where
 abbrev pub arraysPart : Bytes → Bytes
 arraysPart sm = region arraysAt arraysLen sm
 
-pub arrays-length : (sm : Bytes) → length sm ≡ sessionLen → length (arraysPart sm) ≡ arraysLen
-arrays-length sm n = region-length arraysAt arraysLen sm (omega arith)
+pub arrays-part-length : (sm : Bytes) → length sm ≡ sessionLen → length (arraysPart sm) ≡ arraysLen
+arrays-part-length sm n = region-length arraysAt arraysLen sm (omega arith)
 
 pub load-arrays : (sm : Bytes) → length sm ≡ sessionLen → loadOf sm ≡ wholeOf (numbersAt sm) (arraysPart sm)
 load-arrays sm n = load-whole sm n
@@ -96,14 +96,14 @@ numbers-lent sm w n = same-numbers (search (soon, items)) (search (soon, items))
     soon i h = byte i (ltb-true i arraysAt h)
 
     items : (i : ℕ) → ltb (i + (blockLimit - 1)) arraysAt ≡ true → arrayAt blockLimit (take arraysAt sm ++ r) i ≡ arrayAt blockLimit sm i
-    items i h = let g = ltb-true (i + (blockLimit - 1)) arraysAt h in ap (putBytes (replicate blockLimit 0) (at 0)) (part-kept arraysAt sm r k i blockLimit (omega arith))
+    items i h = let g = ltb-true (i + (blockLimit - 1)) arraysAt h in ap (putBytes (replicate blockLimit 0) (cursorAt 0)) (part-kept arraysAt sm r k i blockLimit (omega arith))
 
 -- SAVED WHERE IT STANDS: the arrays given back as w, then the numbers saved, is the whole session saved
 pub saved-lent : (sm w : Bytes) (h : Numbers) → length sm ≡ sessionLen → length w ≡ arraysLen → {x : Bytes}
-    → x ≡ putBytes (lent arraysAt arraysLen sm w) (at places.numbersStart) (numberBytes h) → x ≡ saveOf sm (wholeOf h w)
+    → x ≡ putBytes (lent arraysAt arraysLen sm w) (cursorAt places.numbersStart) (numberBytes h) → x ≡ saveOf sm (wholeOf h w)
 saved-lent sm w h n k e = e ∙ save-whole sm h w n k
 
 -- the numbers alone
-pub saved-numbers : (sm : Bytes) (h : Numbers) → length sm ≡ sessionLen → {x : Bytes} → x ≡ putBytes sm (at places.numbersStart) (numberBytes h) → x ≡ saveOf sm (wholeOf h (arraysPart sm))
+pub saved-numbers : (sm : Bytes) (h : Numbers) → length sm ≡ sessionLen → {x : Bytes} → x ≡ putBytes sm (cursorAt places.numbersStart) (numberBytes h) → x ≡ saveOf sm (wholeOf h (arraysPart sm))
 saved-numbers sm h n e =
-    e ∙ ap (λ (m : Bytes). putBytes m (at places.numbersStart) (numberBytes h)) (sym (lent-same arraysAt arraysLen sm)) ∙ save-whole sm h (arraysPart sm) n (arrays-length sm n)
+    e ∙ ap (λ (m : Bytes). putBytes m (cursorAt places.numbersStart) (numberBytes h)) (sym (lent-same arraysAt arraysLen sm)) ∙ save-whole sm h (arraysPart sm) n (arrays-part-length sm n)

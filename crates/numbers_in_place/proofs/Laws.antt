@@ -6,20 +6,20 @@ use native.Mathlib.Omega.{arith}
 use lib.Dec.{eqb}
 use lib.ListN.{length, getD, set, drop}
 use lib.Seq.{sets, length-sets, getD-take, getD-drop}
-use Rattle.grammar.specs.Bytes.{Bytes, byteValues}
+use Rattle.grammar.specs.Bytes.{Bytes, byteValues, flag}
 use Rattle.grammar.specs.Turns.{blockLimit}
 use Rattle.buffer.specs.Put.{putBytes}
 use Rattle.places.specs.Places.{sessionLen, ffAt, framedAt, afterCrAt, firstAt, keptAt, oursAt, sendingAt, signsAt, placeAt, lineLengthAt, leftAt, bodyAt, posAt, usedAt, tailAt, tallySizesAt, tallyProposedAt, tailLen, numbersEnd}
 use Rattle.places.specs.Places as places
 use Rattle.layout.specs.Layout.{byteAt, le2At, le4At, le8At, le2, le4, le8}
-use Rattle.session_memory.specs.State.{at, flag, fiveAt, fiveOut, arrayAt, smallOut, numbersOut, tailOut, loadTally}
+use Rattle.session_memory.specs.State.{cursorAt, fiveAt, fiveOut, arrayAt, smallOut, numbersOut, tailOut, loadTally}
 use Rattle.session_memory.proofs.Laws.{array-in}
 use Rattle.transfer_step.specs.declared.Reader.{Reader}
 use Rattle.numbers.specs.declared.Numbers.{Numbers}
 use Rattle.numbers.specs.Whole.{awaitNumbers, sayNumbers, keepNumbers, readerNumbers, lineNumbers, numbersAt, tailBytes, numberBytes}
 use Rattle.numbers.proofs.Laws.{out-length}
-use Rattle.numbers_in_place.specs.Changed.{withLine, withReader, withSay}
-use Rattle.numbers_in_place.proofs.Written.{bytesFrom, Agrees, agrees-same, agrees-later, agrees-set, skipped, put-sets, le2-back, le4-back, le8-back}
+use Rattle.numbers_in_place.specs.Changed.{withLineLength, withReadSoFar, withPieces}
+use Rattle.numbers_in_place.proofs.Written.{bytesFrom, AgreesFrom, agrees-same, agrees-later, agrees-set, skipped, put-sets, le2-back, le4-back, le8-back}
 
 -- up to five numbers that were read are written as they stand
 five-back : (sm : Bytes) (i : ℕ) → i + (1 + blockLimit) ≤ length sm → fiveOut (fiveAt sm i) ≡ bytesFrom sm i (1 + blockLimit)
@@ -69,13 +69,13 @@ module _ (sm : Bytes) (n : length sm ≡ sessionLen) (small : (i : ℕ) → byte
   phase-stays l = skipped 1 places.numbersStart sm sm l (agrees-same places.numbersStart sm)
 
   -- the numbers h saved are these bytes written from the flags on
-  saved-as : (h : Numbers) (l : Bytes) → numberBytes h ≡ phase ∷ l → putBytes sm (at places.numbersStart) (numberBytes h) ≡ sets sm ffAt l
+  saved-as : (h : Numbers) (l : Bytes) → numberBytes h ≡ phase ∷ l → putBytes sm (cursorAt places.numbersStart) (numberBytes h) ≡ sets sm ffAt l
   saved-as h l e =
       put-sets sm places.numbersStart (numberBytes h) (omega (arith, out-length h)) ∙ ap (sets sm places.numbersStart) e ∙ phase-stays l
 
   -- ---------------------------------------------------------------- the line
 
-  line-bytes : (k : ℕ) → numberBytes (withLine k (numbersAt sm)) ≡ phase ∷ ff ∷ framed ∷ 0 ∷ (bytesFrom sm firstAt (lineLengthAt - firstAt) ++ (le2 k ++ (bytesFrom sm leftAt (numbersEnd - leftAt) ++ [])))
+  line-bytes : (k : ℕ) → numberBytes (withLineLength k (numbersAt sm)) ≡ phase ∷ ff ∷ framed ∷ 0 ∷ (bytesFrom sm firstAt (lineLengthAt - firstAt) ++ (le2 k ++ (bytesFrom sm leftAt (numbersEnd - leftAt) ++ [])))
   unfolding numberBytes smallOut numbersOut tailOut numbersAt awaitNumbers sayNumbers keepNumbers readerNumbers lineNumbers
   line-bytes k =
       let a : Bytes = phase ∷ ff ∷ framed ∷ 0 ∷ bytesFrom sm firstAt (oursAt - firstAt) in
@@ -94,20 +94,20 @@ module _ (sm : Bytes) (n : length sm ≡ sessionLen) (small : (i : ℕ) → byte
   abbrev flagged : Bytes
   flagged = set (set (set sm ffAt ff) framedAt framed) afterCrAt 0
 
-  flagged-after : Agrees firstAt flagged sm
+  flagged-after : AgreesFrom firstAt flagged sm
   flagged-after =
       agrees-set firstAt afterCrAt 0 (set (set sm ffAt ff) framedAt framed) sm (omega arith)
       (agrees-set firstAt framedAt framed (set sm ffAt ff) sm (omega arith) (agrees-set firstAt ffAt ff sm sm (omega arith) (agrees-same firstAt sm)))
 
   -- after bytes written one after the other
-  written-after : (l : Bytes) (i k : ℕ) (m : Bytes) → i + length l ≤ k → Agrees k m sm → Agrees k (sets m i l) sm
+  written-after : (l : Bytes) (i k : ℕ) (m : Bytes) → i + length l ≤ k → AgreesFrom k m sm → AgreesFrom k (sets m i l) sm
   written-after [] i k m h a = a
   written-after (x ∷ l) i k m h a = written-after l (suc i) k (set m i x) (omega arith) (agrees-set k i x m sm (omega arith) a)
 
-  pub line-saved : (k : ℕ) → sets flagged lineLengthAt (le2 k) ≡ putBytes sm (at places.numbersStart) (numberBytes (withLine k (numbersAt sm)))
+  pub line-saved : (k : ℕ) → sets flagged lineLengthAt (le2 k) ≡ putBytes sm (cursorAt places.numbersStart) (numberBytes (withLineLength k (numbersAt sm)))
   line-saved k =
       sym
-      (saved-as (withLine k (numbersAt sm)) (ff ∷ framed ∷ 0 ∷ (bytesFrom sm firstAt (lineLengthAt - firstAt) ++ (le2 k ++ (bytesFrom sm leftAt (numbersEnd - leftAt) ++ [])))) (line-bytes k)
+      (saved-as (withLineLength k (numbersAt sm)) (ff ∷ framed ∷ 0 ∷ (bytesFrom sm firstAt (lineLengthAt - firstAt) ++ (le2 k ++ (bytesFrom sm leftAt (numbersEnd - leftAt) ++ [])))) (line-bytes k)
       ∙ skipped (lineLengthAt - firstAt) firstAt flagged sm (le2 k ++ (bytesFrom sm leftAt (numbersEnd - leftAt) ++ [])) flagged-after
       ∙ skipped (numbersEnd - leftAt) leftAt (sets flagged lineLengthAt (le2 k)) sm []
       (written-after (le2 k) lineLengthAt leftAt flagged (omega arith) (agrees-later firstAt leftAt flagged sm (omega arith) flagged-after)))
@@ -120,7 +120,7 @@ module _ (sm : Bytes) (n : length sm ≡ sessionLen) (small : (i : ℕ) → byte
   abbrev sizes-out : Reader → Bytes
   sizes-out r = le2 (r .left) ++ le4 (r .body)
 
-  reader-bytes : (r : Reader) → numberBytes (withReader r (numbersAt sm))
+  reader-bytes : (r : Reader) → numberBytes (withReadSoFar r (numbersAt sm))
       ≡ phase ∷ ff ∷ framed ∷ 0 ∷ (bytesFrom sm firstAt (placeAt - firstAt) ++ (small-out r ++ (bytesFrom sm lineLengthAt (leftAt - lineLengthAt) ++ (sizes-out r ++ (bytesFrom sm posAt (numbersEnd - posAt) ++ [])))))
   unfolding numberBytes smallOut numbersOut tailOut numbersAt awaitNumbers sayNumbers keepNumbers readerNumbers lineNumbers
   reader-bytes r =
@@ -135,13 +135,13 @@ module _ (sm : Bytes) (n : length sm ≡ sessionLen) (small : (i : ℕ) → byte
       ∙ ap (λ (x : Bytes). pieces a o d g (small-out r) (bytesFrom sm lineLengthAt (leftAt - lineLengthAt)) (le2 (r .left)) (le4 (r .body)) (bytesFrom sm posAt (usedAt - posAt)) x t) (le8-back sm small usedAt)
 
   pub reader-saved : (r : Reader) → sets (sets flagged placeAt (small-out r)) leftAt (sizes-out r)
-      ≡ putBytes sm (at places.numbersStart) (numberBytes (withReader r (numbersAt sm)))
+      ≡ putBytes sm (cursorAt places.numbersStart) (numberBytes (withReadSoFar r (numbersAt sm)))
   reader-saved r =
       let m : Bytes = sets flagged placeAt (small-out r) in
       let k : Bytes = bytesFrom sm posAt (numbersEnd - posAt) ++ [] in
-      let f : Agrees lineLengthAt m sm = written-after (small-out r) placeAt lineLengthAt flagged (omega arith) (agrees-later firstAt lineLengthAt flagged sm (omega arith) flagged-after) in
+      let f : AgreesFrom lineLengthAt m sm = written-after (small-out r) placeAt lineLengthAt flagged (omega arith) (agrees-later firstAt lineLengthAt flagged sm (omega arith) flagged-after) in
       sym
-      (saved-as (withReader r (numbersAt sm)) (ff ∷ framed ∷ 0 ∷ (bytesFrom sm firstAt (placeAt - firstAt) ++ (small-out r ++ (bytesFrom sm lineLengthAt (leftAt - lineLengthAt) ++ (sizes-out r ++ k))))) (reader-bytes r)
+      (saved-as (withReadSoFar r (numbersAt sm)) (ff ∷ framed ∷ 0 ∷ (bytesFrom sm firstAt (placeAt - firstAt) ++ (small-out r ++ (bytesFrom sm lineLengthAt (leftAt - lineLengthAt) ++ (sizes-out r ++ k))))) (reader-bytes r)
       ∙ skipped (placeAt - firstAt) firstAt flagged sm (small-out r ++ (bytesFrom sm lineLengthAt (leftAt - lineLengthAt) ++ (sizes-out r ++ k))) flagged-after
       ∙ skipped (leftAt - lineLengthAt) lineLengthAt m sm (sizes-out r ++ k) f
       ∙ skipped (numbersEnd - posAt) posAt (sets m leftAt (sizes-out r)) sm []
@@ -152,7 +152,7 @@ module _ (sm : Bytes) (n : length sm ≡ sessionLen) (small : (i : ℕ) → byte
   abbrev after-cr : ℕ
   after-cr = flag (eqb (byteAt sm afterCrAt) 1)
 
-  say-bytes : (first then pos : ℕ) → numberBytes (withSay first then pos (numbersAt sm))
+  say-bytes : (first then pos : ℕ) → numberBytes (withPieces first then pos (numbersAt sm))
       ≡ phase ∷ ff ∷ framed ∷ after-cr ∷ first ∷ then ∷ (bytesFrom sm keptAt (posAt - keptAt) ++ (le8 pos ++ (bytesFrom sm usedAt (numbersEnd - usedAt) ++ [])))
   unfolding numberBytes smallOut numbersOut tailOut numbersAt awaitNumbers sayNumbers keepNumbers readerNumbers lineNumbers
   say-bytes first then pos =
@@ -170,24 +170,24 @@ module _ (sm : Bytes) (n : length sm ≡ sessionLen) (small : (i : ℕ) → byte
 
   -- the flags and the pieces from their place on, then how many bytes are given
   pub say-saved : (first then pos : ℕ) → sets (sets sm ffAt (ff ∷ framed ∷ after-cr ∷ first ∷ then ∷ [])) posAt (le8 pos)
-      ≡ putBytes sm (at places.numbersStart) (numberBytes (withSay first then pos (numbersAt sm)))
+      ≡ putBytes sm (cursorAt places.numbersStart) (numberBytes (withPieces first then pos (numbersAt sm)))
   say-saved first then pos =
       let w : Bytes = ff ∷ framed ∷ after-cr ∷ first ∷ then ∷ [] in
       let m : Bytes = sets sm ffAt w in
       let k : Bytes = bytesFrom sm usedAt (numbersEnd - usedAt) ++ [] in
-      let f : Agrees keptAt m sm = written-after w ffAt keptAt sm (omega arith) (agrees-same keptAt sm) in
+      let f : AgreesFrom keptAt m sm = written-after w ffAt keptAt sm (omega arith) (agrees-same keptAt sm) in
       sym
-      (saved-as (withSay first then pos (numbersAt sm)) (ff ∷ framed ∷ after-cr ∷ first ∷ then ∷ (bytesFrom sm keptAt (posAt - keptAt) ++ (le8 pos ++ k))) (say-bytes first then pos)
+      (saved-as (withPieces first then pos (numbersAt sm)) (ff ∷ framed ∷ after-cr ∷ first ∷ then ∷ (bytesFrom sm keptAt (posAt - keptAt) ++ (le8 pos ++ k))) (say-bytes first then pos)
       ∙ skipped (posAt - keptAt) keptAt m sm (le8 pos ++ k) f
       ∙ skipped (numbersEnd - usedAt) usedAt (sets m posAt (le8 pos)) sm [] (written-after (le8 pos) posAt usedAt m (omega arith) (agrees-later keptAt usedAt m sm (omega arith) f)))
 
   -- the same by two writes
-  pub say-put : (first then pos : ℕ) → putBytes (putBytes sm (at ffAt) (ff ∷ framed ∷ after-cr ∷ first ∷ then ∷ [])) (at posAt) (le8 pos)
-      ≡ putBytes sm (at places.numbersStart) (numberBytes (withSay first then pos (numbersAt sm)))
+  pub say-put : (first then pos : ℕ) → putBytes (putBytes sm (cursorAt ffAt) (ff ∷ framed ∷ after-cr ∷ first ∷ then ∷ [])) (cursorAt posAt) (le8 pos)
+      ≡ putBytes sm (cursorAt places.numbersStart) (numberBytes (withPieces first then pos (numbersAt sm)))
   say-put first then pos =
       let w : Bytes = ff ∷ framed ∷ after-cr ∷ first ∷ then ∷ [] in
       let l : length (sets sm ffAt w) ≡ length sm = length-sets sm ffAt w in
-      ap (λ (x : Bytes). putBytes x (at posAt) (le8 pos)) (put-sets sm ffAt w (omega arith)) ∙ put-sets (sets sm ffAt w) posAt (le8 pos) (omega arith) ∙ say-saved first then pos
+      ap (λ (x : Bytes). putBytes x (cursorAt posAt) (le8 pos)) (put-sets sm ffAt w (omega arith)) ∙ put-sets (sets sm ffAt w) posAt (le8 pos) (omega arith) ∙ say-saved first then pos
 
   -- ---------------------------------------------------------------- as the code writes them
 
@@ -199,13 +199,13 @@ module _ (sm : Bytes) (n : length sm ≡ sessionLen) (small : (i : ℕ) → byte
     starts = ap (λ (x : ℕ). set (set (set sm ffAt x) framedAt g) afterCrAt 0) e ∙ ap (λ (x : ℕ). set (set (set sm ffAt ff) framedAt x) afterCrAt 0) h
 
     pub line-put : (k : ℕ) (l : Bytes) → l ≡ le2 k
-        → set (set started lineLengthAt (getD l 0 0)) (lineLengthAt + 1) (getD l 1 0) ≡ putBytes sm (at places.numbersStart) (numberBytes (withLine k (numbersAt sm)))
+        → set (set started lineLengthAt (getD l 0 0)) (lineLengthAt + 1) (getD l 1 0) ≡ putBytes sm (cursorAt places.numbersStart) (numberBytes (withLineLength k (numbersAt sm)))
     line-put k l d =
         ap (λ (x : Bytes). set (set started lineLengthAt (getD x 0 0)) (lineLengthAt + 1) (getD x 1 0)) d ∙ ap (λ (x : Bytes). sets x lineLengthAt (le2 k)) starts ∙ line-saved k
 
     pub reader-put : (r : Reader) (l b : Bytes) → l ≡ le2 (r .left) → b ≡ le4 (r .body)
         → sets (sets started placeAt (small-out r)) leftAt (getD l 0 0 ∷ getD l 1 0 ∷ getD b 0 0 ∷ getD b 1 0 ∷ getD b 2 0 ∷ getD b 3 0 ∷ [])
-        ≡ putBytes sm (at places.numbersStart) (numberBytes (withReader r (numbersAt sm)))
+        ≡ putBytes sm (cursorAt places.numbersStart) (numberBytes (withReadSoFar r (numbersAt sm)))
     reader-put r l b d i =
         let m : Bytes = sets started placeAt (small-out r) in
         ap (λ (x : Bytes). sets m leftAt (getD x 0 0 ∷ getD x 1 0 ∷ getD b 0 0 ∷ getD b 1 0 ∷ getD b 2 0 ∷ getD b 3 0 ∷ [])) d
@@ -216,7 +216,7 @@ module _ (sm : Bytes) (n : length sm ≡ sessionLen) (small : (i : ℕ) → byte
     pub say-written : (first then pos : ℕ) (p : Bytes) → p ≡ le8 pos
         → sets (sets sm ffAt (f ∷ g ∷ h ∷ first ∷ then ∷ [])) posAt
         (getD p 0 0 ∷ getD p 1 0 ∷ getD p 2 0 ∷ getD p 3 0 ∷ getD p 4 0 ∷ getD p 5 0 ∷ getD p 6 0 ∷ getD p 7 0 ∷ [])
-        ≡ putBytes sm (at places.numbersStart) (numberBytes (withSay first then pos (numbersAt sm)))
+        ≡ putBytes sm (cursorAt places.numbersStart) (numberBytes (withPieces first then pos (numbersAt sm)))
     say-written first then pos p d =
         ap (λ (x : ℕ). sets (sets sm ffAt (x ∷ g ∷ h ∷ first ∷ then ∷ [])) posAt (eight p)) e
         ∙ ap (λ (x : ℕ). sets (sets sm ffAt (ff ∷ x ∷ h ∷ first ∷ then ∷ [])) posAt (eight p)) i

@@ -1,17 +1,18 @@
 -- Bytes written one after the other: where they are those that stand there, nothing is written.
 use Prim.Native.Nat.{ℕ, zero, suc, _+_, _*_, _/_, _%_, _<_, _≤_}
 use mathlib.Core.Path.{_≡_, refl, sym, ap, _∙_}
-use mathlib.Core.List.{[], _∷_, _++_, append-assoc}
+use mathlib.Core.List.{[], _∷_, _++_}
 use native.Mathlib.Omega.{arith}
 use native.Mathlib.Nat.{add-zero, div-div-eq-div-mul}
 use native.Mathlib.Numerals.{add-one}
-use lib.ListN.{length, set, take, drop}
-use lib.Seq.{sets, sets-eq, set-getD, getD-set-other}
+use lib.ListN.{length, set}
+use lib.Seq.{sets, set-getD, getD-set-other}
+use Rattle.buffer.proofs.Laws.{wrote-sets}
 use Rattle.grammar.specs.Bytes.{Bytes, byteValues, twoByteValues, threeByteValues, fourByteValues}
 use Rattle.buffer.specs.Put.{wrote, putBytes}
 use Rattle.layout.specs.Layout.{byteAt, le2At, le4At, le8At, le2, le4, le8}
 use Rattle.layout.proofs.Places.{put-fits}
-use Rattle.session_memory.specs.State.{at}
+use Rattle.session_memory.specs.State.{cursorAt}
 
 -- k bytes from i on, each by its place
 abbrev pub bytesFrom : Bytes → ℕ → ℕ → Bytes
@@ -19,33 +20,30 @@ bytesFrom m i zero = []
 bytesFrom m i (suc k) = byteAt m i ∷ bytesFrom m (suc i) k
 
 -- from i on m is as m₀ was
-pub Agrees : ℕ → Bytes → Bytes → Type 0
-Agrees i m m₀ = (j : ℕ) → i ≤ j → byteAt m j ≡ byteAt m₀ j
+pub AgreesFrom : ℕ → Bytes → Bytes → Type 0
+AgreesFrom i m m₀ = (j : ℕ) → i ≤ j → byteAt m j ≡ byteAt m₀ j
 
-pub agrees-same : (i : ℕ) (m : Bytes) → Agrees i m m
-unfolding Agrees
+pub agrees-same : (i : ℕ) (m : Bytes) → AgreesFrom i m m
+unfolding AgreesFrom
 agrees-same i m j h = refl
 
-pub agrees-later : (i k : ℕ) (m m₀ : Bytes) → i ≤ k → Agrees i m m₀ → Agrees k m m₀
-unfolding Agrees
+pub agrees-later : (i k : ℕ) (m m₀ : Bytes) → i ≤ k → AgreesFrom i m m₀ → AgreesFrom k m m₀
+unfolding AgreesFrom
 agrees-later i k m m₀ h a j l = a j (omega arith)
 
-pub agrees-set : (i k x : ℕ) (m m₀ : Bytes) → k < i → Agrees i m m₀ → Agrees i (set m k x) m₀
-unfolding Agrees
+pub agrees-set : (i k x : ℕ) (m m₀ : Bytes) → k < i → AgreesFrom i m m₀ → AgreesFrom i (set m k x) m₀
+unfolding AgreesFrom
 agrees-set i k x m m₀ h a j l = getD-set-other m k j x 0 (λ e. omega arith) ∙ a j l
 
-pub skipped : (k i : ℕ) (m m₀ l : Bytes) → Agrees i m m₀ → sets m i (bytesFrom m₀ i k ++ l) ≡ sets m (i + k) l
-unfolding Agrees
+pub skipped : (k i : ℕ) (m m₀ l : Bytes) → AgreesFrom i m m₀ → sets m i (bytesFrom m₀ i k ++ l) ≡ sets m (i + k) l
+unfolding AgreesFrom
 skipped zero i m m₀ l a = ap (λ (j : ℕ). sets m j l) (sym (add-zero i))
 skipped (suc k) i m m₀ l a =
     ap (λ (x : ℕ). sets (set m i x) (suc i) (bytesFrom m₀ (suc i) k ++ l)) (sym (a i (omega arith)))
     ∙ ap (λ (x : Bytes). sets x (suc i) (bytesFrom m₀ (suc i) k ++ l)) (set-getD m i 0)
     ∙ skipped k (suc i) m m₀ l (λ j h. a j (omega arith)) ∙ ap (λ (j : ℕ). sets m j l) (omega arith)
 
-pub wrote-sets : (m : Bytes) (i : ℕ) (l : Bytes) → i + length l ≤ length m → wrote m i l ≡ sets m i l
-wrote-sets m i l h = sym (append-assoc (take i m) l (drop (i + length l) m)) ∙ sym (sets-eq l m i h)
-
-pub put-sets : (m : Bytes) (i : ℕ) (l : Bytes) → i + length l ≤ length m → putBytes m (at i) l ≡ sets m i l
+pub put-sets : (m : Bytes) (i : ℕ) (l : Bytes) → i + length l ≤ length m → putBytes m (cursorAt i) l ≡ sets m i l
 put-sets m i l h = put-fits m i l h ∙ wrote-sets m i l h
 
 -- ---------------------------------------------------------------- a number that was read from bytes is written as those bytes

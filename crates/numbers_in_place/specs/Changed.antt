@@ -7,13 +7,13 @@ use Rattle.numbers.specs.declared.Numbers.{Numbers}
 use Rattle.numbers.specs.Setters as numbers
 
 -- The line under way has n bytes, and the last byte was no CR.
-abbrev pub withLine : ℕ → Numbers → Numbers
-withLine n h = numbers.withLine (record { «after_cr» = false; len = n }) h
+abbrev pub withLineLength : ℕ → Numbers → Numbers
+withLineLength n h = numbers.withLine (record { «after_cr» = false; len = n }) h
 
 -- The transfer under way is read so far, and the last byte was no CR.
-abbrev pub withReader : Reader → Numbers → Numbers
-withReader r h = numbers.withReader r (withLine (h .line .len) h)
+abbrev pub withReadSoFar : Reader → Numbers → Numbers
+withReadSoFar r h = numbers.withReader r (withLineLength (h .line .len) h)
 
 -- These pieces wait, and pos of their bytes are given.
-abbrev pub withSay : ℕ → ℕ → ℕ → Numbers → Numbers
-withSay first then pos h = numbers.withSay (withFirst first (withThen then (withPos pos (h .say)))) h
+abbrev pub withPieces : ℕ → ℕ → ℕ → Numbers → Numbers
+withPieces first then pos h = numbers.withSay (withFirst first (withThen then (withPos pos (h .say)))) h

@@ -6,12 +6,13 @@ use transfer_step::Reader;
 ghost use mathlib.Core.Path.{_≡_};
 ghost use lib.Dec.{eqb};
 ghost use lib.ListN.{length};
+ghost use Rattle.grammar.specs.Bytes.{flag};
 ghost use Rattle.buffer.specs.Put.{putBytes};
 ghost use Rattle.places.specs.Places.{sessionLen};
 ghost use Rattle.places.specs.Places as places;
-ghost use Rattle.session_memory.specs.State.{at, flag};
+ghost use Rattle.session_memory.specs.State.{cursorAt};
 ghost use Rattle.numbers.specs.Whole.{numbersAt, numberBytes};
-ghost use Rattle.numbers_in_place.specs.Changed.{withLine, withReader, withSay};
+ghost use Rattle.numbers_in_place.specs.Changed.{withLineLength, withReadSoFar, withPieces};
 
 // A flag as it is saved: 1 for the byte 1, 0 for any other.
 fn flag(b: u8) -> u8
@@ -24,9 +25,9 @@ fn flag(b: u8) -> u8
 }
 
 // The line under way has len bytes, and the last byte was no CR.
-pub fn put_line(sm: &mut [u8], len: usize)
+pub fn put_line_length(sm: &mut [u8], len: usize)
     requires { ⌜ length (now sm) ≡ sessionLen ⌝ }
-    ensures { λ _. ⌜ now (sm .exit) ≡ putBytes (now (sm .entry)) (at places.numbersStart) (numberBytes (withLine len (numbersAt (now (sm .entry))))) ⌝ }
+    ensures { λ _. ⌜ now (sm .exit) ≡ putBytes (now (sm .entry)) (cursorAt places.numbersStart) (numberBytes (withLineLength len (numbersAt (now (sm .entry))))) ⌝ }
 {
     let ff = flag(sm[places::FF]);
     let framed = flag(sm[places::FRAMED]);
@@ -39,9 +40,9 @@ pub fn put_line(sm: &mut [u8], len: usize)
 }
 
 // The transfer under way is read so far, and the last byte was no CR.
-pub fn put_reader(sm: &mut [u8], r: Reader)
+pub fn put_read_so_far(sm: &mut [u8], r: Reader)
     requires { ⌜ length (now sm) ≡ sessionLen ⌝ }
-    ensures { λ _. ⌜ now (sm .exit) ≡ putBytes (now (sm .entry)) (at places.numbersStart) (numberBytes (withReader r (numbersAt (now (sm .entry))))) ⌝ }
+    ensures { λ _. ⌜ now (sm .exit) ≡ putBytes (now (sm .entry)) (cursorAt places.numbersStart) (numberBytes (withReadSoFar r (numbersAt (now (sm .entry))))) ⌝ }
 {
     let ff = flag(sm[places::FF]);
     let framed = flag(sm[places::FRAMED]);
@@ -64,9 +65,9 @@ pub fn put_reader(sm: &mut [u8], r: Reader)
 }
 
 // These pieces wait for give, and pos of their bytes are given.
-pub fn put_say(sm: &mut [u8], first: u8, then: u8, pos: usize)
+pub fn put_pieces(sm: &mut [u8], first: u8, then: u8, pos: usize)
     requires { ⌜ length (now sm) ≡ sessionLen ⌝ }
-    ensures { λ _. ⌜ now (sm .exit) ≡ putBytes (now (sm .entry)) (at places.numbersStart) (numberBytes (withSay first then pos (numbersAt (now (sm .entry))))) ⌝ }
+    ensures { λ _. ⌜ now (sm .exit) ≡ putBytes (now (sm .entry)) (cursorAt places.numbersStart) (numberBytes (withPieces first then pos (numbersAt (now (sm .entry))))) ⌝ }
 {
     let ff = flag(sm[places::FF]);
     let framed = flag(sm[places::FRAMED]);

@@ -10,7 +10,7 @@ use borrow.Author.Tests.{le-leb, lt-leb, eq-eqb, ne-eqb}
 use Rattle.grammar.specs.Bytes.{Bytes}
 use Rattle.grammar.specs.Fields.{Form, isBid, isBody}
 use Rattle.grammar.specs.Refusals.{badMemory, noPlace}
-use Rattle.grammar.proofs.Basics.{told, told-not}
+use Rattle.grammar.proofs.Basics.{not-told, told-not}
 use Rattle.session.specs.Choices.{among}
 use Rattle.phase.specs.Phase.{stateDeclined}
 use Rattle.layout.specs.Layout.{Extent, extent, textIn, fieldIn, entryAt, stateFor}
@@ -25,7 +25,7 @@ use Rattle.give.specs.Giving.{reply}
 use Rattle.give.specs.declared.Reply.{Reply}
 use Rattle.places.specs.Places.{bidMax, recordBid, knownLen, recordLen, sessionLen}
 use Rattle.open.specs.Lending.{Lending, roleCaller}
-use Rattle.open.specs.Opening.{lengthOk, statesFrom, within, bodyOk, recordOk, placeOk, faultFrom, bidsOk, Opened, opened, sizesLent, faultIn, beforeOk, openBy, openOf}
+use Rattle.open.specs.Opening.{lengthOk, statesFrom, within, bodyOk, recordOk, placeOk, faultFrom, bidsOk, Opened, openedWith, sizesLent, faultIn, beforeOk, openBy, openOf}
 use Rattle.open.proofs.Accepted.{before-told, sizes-told}
 
 -- ---------------------------------------------------------------- the body
@@ -42,7 +42,7 @@ module _ (bodies : Bytes) (form : Form) (start len : ℕ) (x : Extent) (a : star
   body-outside h = sym (ap (λ (y : Bool). y && isBody form (textIn bodies x)) (told-not lies h))
 
   pub body-read : {r : Bool} → not t ≡ false → r ≡ isBody form (textIn bodies (extent start len)) → r ≡ bodyOk bodies x form
-  body-read h f = f ∙ ap (λ (y : Extent). isBody form (textIn bodies y)) read ∙ sym (ap (λ (y : Bool). y && isBody form (textIn bodies x)) (told lies h))
+  body-read h f = f ∙ ap (λ (y : Extent). isBody form (textIn bodies y)) read ∙ sym (ap (λ (y : Bool). y && isBody form (textIn bodies x)) (not-told lies h))
 
 -- ---------------------------------------------------------------- a record at its place
 
@@ -62,7 +62,7 @@ module _ (table titles names bodies : Bytes) (i : ℕ) (c : Bytes) (e : c ≡ en
   unfolding placeOk
   place-new h b g k =
       ap not (k ∙ ap (λ (x : Bytes). among x (entries (fieldIn bidMax recordBid) recordLen table i)) (g ∙ ap (fieldIn bidMax recordBid) e))
-      ∙ sym (ap (λ (x : Bool). x && others) (told there h))
+      ∙ sym (ap (λ (x : Bool). x && others) (not-told there h))
 
 -- ---------------------------------------------------------------- the known BIDs from place i on
 
@@ -78,7 +78,7 @@ module _ (known : Bytes) (i n : ℕ) where
   pub bids-more : i < n → (c : Bytes) → c ≡ entryAt knownLen known i → {t : Bool} → t ≡ bidOk c → not t ≡ false
       → bidsOk known i (n - i) ≡ bidsOk known (i + 1) (n - (i + 1))
   bids-more h c e f g =
-      bids-next h ∙ ap (λ (x : Bool). x && bidsOk known (i + 1) (n - (i + 1))) (told (f ∙ ap bidOk e) g)
+      bids-next h ∙ ap (λ (x : Bool). x && bidsOk known (i + 1) (n - (i + 1))) (not-told (f ∙ ap bidOk e) g)
 
   pub bids-stop : i < n → (c : Bytes) → c ≡ entryAt knownLen known i → {t : Bool} → t ≡ bidOk c → not t ≡ true → false ≡ bidsOk known i (n - i)
   bids-stop h c e f g =
@@ -122,7 +122,7 @@ module _ (table titles names bodies : Bytes) (i n : ℕ) where
       rw (e, add-one i)
 
   pub fault-more : i < n → {t : Bool} → t ≡ placeOk table titles names bodies i → not t ≡ false → left i ≡ left (i + 1)
-  fault-more h f g = fault-next h ∙ ap (λ (x : Bool). cond x (left (i + 1)) i) (told f g)
+  fault-more h f g = fault-next h ∙ ap (λ (x : Bool). cond x (left (i + 1)) i) (not-told f g)
 
   pub fault-stop : i < n → {t : Bool} → t ≡ placeOk table titles names bodies i → not t ≡ true → i ≡ left i
   fault-stop h f g = sym (fault-next h ∙ ap (λ (x : Bool). cond x (left (i + 1)) i) (told-not f g))
@@ -140,7 +140,7 @@ module _ (L : Lending) where
 
   -- with this reply, and session memory as it was
   abbrev told-by : Reply → Opened
-  told-by r = opened r (L .session)
+  told-by r = openedWith r (L .session)
 
   module _ {t : Bool} (f : t ≡ beforeOk L) where
     pub open-before : not t ≡ true → (r : Reply) → r ≡ reply badMemory noPlace 0 → told-by r ≡ answer
@@ -150,15 +150,15 @@ module _ (L : Lending) where
     module _ (g : not t ≡ false) (place : ℕ) (q : place ≡ faultIn L) where
       by-records : {b : Bool} → eqb (faultIn L) noPlace ≡ b → openBy L true b ≡ answer
       unfolding openOf
-      by-records e = sym (ap (λ (b : Bool). openBy L b (eqb (faultIn L) noPlace)) (told f g) ∙ ap (openBy L true) e)
+      by-records e = sym (ap (λ (b : Bool). openBy L b (eqb (faultIn L) noPlace)) (not-told f g) ∙ ap (openBy L true) e)
 
       pub open-fault : (place ≡ noPlace → ⊥) → (r : Reply) → r ≡ reply badMemory place 0 → told-by r ≡ answer
       open-fault n r e = ap told-by (e ∙ ap (λ (p : ℕ). reply badMemory p 0) q) ∙ by-records (ne-eqb (faultIn L) noPlace (λ x. n (q ∙ x)))
 
       pub open-good : place ≡ noPlace → (m : Bytes) → m ≡ saveSizes (L .session) (sizesLent L) → (t : Tally) → t ≡ counted (L .partner) (L .table) noSheet
-          → (n : Bytes) → n ≡ saveOf m (freshOf (eqb (L .role) roleCaller) (L .partner) t) → opened (reply 0 0 0) n ≡ answer
+          → (n : Bytes) → n ≡ saveOf m (freshOf (eqb (L .role) roleCaller) (L .partner) t) → openedWith (reply 0 0 0) n ≡ answer
       open-good d m v t w n z =
-          ap (λ (x : Bytes). opened (reply 0 0 0) x)
+          ap (λ (x : Bytes). openedWith (reply 0 0 0) x)
           (z ∙ ap (λ (x : Bytes). saveOf x (freshOf (eqb (L .role) roleCaller) (L .partner) t)) v
           ∙ ap (λ (x : Tally). saveOf (saveSizes (L .session) (sizesLent L)) (freshOf (eqb (L .role) roleCaller) (L .partner) x)) w)
           ∙ by-records (eq-eqb (faultIn L) noPlace (sym q ∙ d))
@@ -166,4 +166,4 @@ module _ (L : Lending) where
 -- the size that was tested, after the sizes are saved
 pub size-told : (L : Lending) {b : Bool} → b ≡ beforeOk L → not b ≡ false → (z : Sizes) {m : Bytes} → m ≡ saveSizes (L .session) z → length m ≡ sessionLen
 size-told L e h z f =
-    ap length f ∙ sizes-length (L .session) z ∙ sizes-told L (before-told L (told e h)) .session
+    ap length f ∙ sizes-length (L .session) z ∙ sizes-told L (before-told L (not-told e h)) .session

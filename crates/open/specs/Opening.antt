@@ -114,12 +114,12 @@ pub record Opened : Type 0 where
   pub reply : Reply
   pub sm : Bytes
 
-abbrev pub opened : Reply → Bytes → Opened
-opened r sm = record { reply = r; sm = sm }
+abbrev pub openedWith : Reply → Bytes → Opened
+openedWith r sm = record { reply = r; sm = sm }
 
 -- "A refused open changes no lent byte."
 abbrev pub refusedAt : Lending → ℕ → Opened
-refusedAt L place = opened (reply badMemory place 0) (L .session)
+refusedAt L place = openedWith (reply badMemory place 0) (L .session)
 
 abbrev pub sizesLent : Lending → Sizes
 sizesLent L = lentSizes (L .table) (L .titles) (L .names) (L .bodies) (L .known) (L .inbox) (L .store)
@@ -150,7 +150,7 @@ beforeOk L =
 abbrev pub openBy : Lending → Bool → Bool → Opened
 openBy L before records =
     cond before
-    (cond records (opened (reply 0 0 0) (begunIn L)) (refusedAt L (faultIn L)))
+    (cond records (openedWith (reply 0 0 0) (begunIn L)) (refusedAt L (faultIn L)))
     (refusedAt L noPlace)
 
 unfoldable pub openOf : Lending → Opened

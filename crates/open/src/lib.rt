@@ -31,36 +31,36 @@ ghost use Rattle.open.specs.Opening.{lengthOk, statesOk, numbersOk, fiel
 const CALLER: u8 = 1;
 
 // Where a record tells its form, type and size, and where title, name and body lie; 01's largest size.
-const FORM: usize = places::RECORD_FORM as usize;
+const RECORD_FORM: usize = places::RECORD_FORM as usize;
 
-const TYPE: usize = places::RECORD_TYPE as usize;
+const RECORD_TYPE: usize = places::RECORD_TYPE as usize;
 
-const SIZE: u16 = places::RECORD_SIZE_FIELD as u16;
+const RECORD_SIZE_FIELD: u16 = places::RECORD_SIZE_FIELD as u16;
 
 const SIZE_MAX: usize = 999999;
 
-const TITLE: u16 = places::RECORD_TITLE as u16;
+const RECORD_TITLE: u16 = places::RECORD_TITLE as u16;
 
-const TITLE_LEN: usize = places::RECORD_TITLE_LEN as usize;
+const RECORD_TITLE_LEN: usize = places::RECORD_TITLE_LEN as usize;
 
-const NAME: u16 = places::RECORD_NAME as u16;
+const RECORD_NAME: u16 = places::RECORD_NAME as u16;
 
-const NAME_LEN: usize = places::RECORD_NAME_LEN as usize;
+const RECORD_NAME_LEN: usize = places::RECORD_NAME_LEN as usize;
 
-const BODY: u16 = places::RECORD_BODY as u16;
+const RECORD_BODY: u16 = places::RECORD_BODY as u16;
 
-const BODY_LEN: u16 = places::RECORD_BODY_LEN as u16;
+const RECORD_BODY_LEN: u16 = places::RECORD_BODY_LEN as u16;
 
 // "up to 64 records", "up to 1,024 BIDs", "up to 64 messages", and how long each is.
-const RECORDS: usize = entries::RECORDS_MAX as usize;
+const RECORDS_MAX: usize = entries::RECORDS_MAX as usize;
 
 const RECORD: usize = places::RECORD as usize;
 
-const BIDS: usize = entries::KNOWN_MAX as usize;
+const KNOWN_MAX: usize = entries::KNOWN_MAX as usize;
 
 const KNOWN: usize = places::KNOWN as usize;
 
-const MESSAGES: usize = entries::MESSAGES_MAX as usize;
+const MESSAGES_MAX: usize = entries::MESSAGES_MAX as usize;
 
 const ENTRY: usize = places::ENTRY as usize;
 
@@ -102,13 +102,13 @@ fn numbers_ok(c: &[u8]) -> bool
     if !states_ok(c) {
         return false;
     }
-    if record_text::FILE < byte_at(c, FORM) {
+    if record_text::FORM_FILE < byte_at(c, RECORD_FORM) {
         return false;
     }
-    if !type_ok(byte_at(c, TYPE)) {
+    if !type_ok(byte_at(c, RECORD_TYPE)) {
         return false;
     }
-    number4(c, SIZE) <= SIZE_MAX
+    number4(c, RECORD_SIZE_FIELD) <= SIZE_MAX
 }
 
 // The field at this place is a callsign.
@@ -186,9 +186,9 @@ fn title_ok(c: &[u8], titles: &[u8]) -> bool
 {
     heading_ok(
         titles,
-        number4(c, TITLE),
-        byte_at(c, TITLE_LEN) as usize,
-        byte_at(c, FORM) != record_text::FILE,
+        number4(c, RECORD_TITLE),
+        byte_at(c, RECORD_TITLE_LEN) as usize,
+        byte_at(c, RECORD_FORM) != record_text::FORM_FILE,
     )
 }
 
@@ -198,9 +198,9 @@ fn name_ok(c: &[u8], names: &[u8]) -> bool
 {
     heading_ok(
         names,
-        number4(c, NAME),
-        byte_at(c, NAME_LEN) as usize,
-        byte_at(c, FORM) == record_text::FILE,
+        number4(c, RECORD_NAME),
+        byte_at(c, RECORD_NAME_LEN) as usize,
+        byte_at(c, RECORD_FORM) == record_text::FORM_FILE,
     )
 }
 
@@ -208,9 +208,9 @@ fn name_ok(c: &[u8], names: &[u8]) -> bool
 fn body_ok(c: &[u8], bodies: &[u8]) -> bool
     ensures { λ r. ⌜ r ≡ bodyOk (now (bodies .entry)) (bodyExtent (now (c .entry))) (formIs (byteAt (now (c .entry)) recordForm)) ⌝ }
 {
-    let form = byte_at(c, FORM);
-    let start = number4(c, BODY);
-    let len = number2(c, BODY_LEN);
+    let form = byte_at(c, RECORD_FORM);
+    let start = number4(c, RECORD_BODY);
+    let len = number2(c, RECORD_BODY_LEN);
     if !lies_within(bodies, start, len) {
         return false;
     }
@@ -265,8 +265,8 @@ fn records(table: &[u8]) -> u8
     ensures { λ r. ⌜ r ≡ recordCount (now (table .entry)) ⌝ }
 {
     let n = table.len() / RECORD;
-    if RECORDS < n {
-        return RECORDS as u8;
+    if RECORDS_MAX < n {
+        return RECORDS_MAX as u8;
     }
     n as u8
 }
@@ -319,13 +319,13 @@ fn sizes_ok(sm: usize, table: usize, known: usize, inbox: usize) -> bool
     if sm != places::SESSION {
         return false;
     }
-    if !entries_ok(table, RECORD, RECORDS) {
+    if !entries_ok(table, RECORD, RECORDS_MAX) {
         return false;
     }
-    if !entries_ok(known, KNOWN, BIDS) {
+    if !entries_ok(known, KNOWN, KNOWN_MAX) {
         return false;
     }
-    entries_ok(inbox, ENTRY, MESSAGES)
+    entries_ok(inbox, ENTRY, MESSAGES_MAX)
 }
 
 // All that is tested before the records: partner, role, sizes, known BIDs. It is not shown the stores: no such test looks at them.

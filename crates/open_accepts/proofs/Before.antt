@@ -17,10 +17,10 @@ use Rattle.layout.specs.Layout.{byteAt, fieldIn, entryAt, knownOf}
 use Rattle.entries.specs.Decoded.{knownCount, knownBids, knownLimit}
 use Rattle.entries.proofs.Laws.{entries-at, entries-length}
 use Rattle.open.specs.Opening.{lengthOk, bidsOk, knownOk, entriesOk, sizesOk, beforeOk}
-use Rattle.open_accepts.specs.Words.{Bid, Field}
+use Rattle.open_accepts.specs.Words.{Bid, EntryField}
 use Rattle.open.specs.Lending.{Lending, roleCalled, roleCaller}
 use Rattle.open_accepts.specs.Lent.{knownIn, bidIn, knownBytesIn}
-use Rattle.open_accepts.specs.Good.{IsRole, Entries, Sound}
+use Rattle.open_accepts.specs.Good.{IsRole, Entries, BeforeRecords}
 use Rattle.open_accepts.proofs.Words.{Decides, both-decide, as-well}
 use Rattle.open_accepts.proofs.Records.{bid-in}
 use Rattle.mail.specs.Mail.{recordLimit, placeLimit}
@@ -98,7 +98,7 @@ module _ (L : Lending) where
   bid-there j h = entries-at knownOf knownLen (L .known) count j [] h
 
   abbrev Known : Type 0
-  Known = (j : ℕ) → j < length (knownIn L) → Field Bid (byteAt (knownBytesIn L j) 0) (bidIn L j)
+  Known = (j : ℕ) → j < length (knownIn L) → EntryField Bid (byteAt (knownBytesIn L j) 0) (bidIn L j)
 
   known-decides : Decides (knownOk (L .known)) Known
   unfolding knownOk
@@ -107,17 +107,17 @@ module _ (L : Lending) where
       there : knownOk (L .known) ≡ true → Known
       there e j h =
           let l : j < count = subst (λ (n : ℕ). j < n) known-count h in
-          subst (λ (w : Bytes). Field Bid (byteAt (knownBytesIn L j) 0) w) (sym (bid-there j l))
+          subst (λ (w : Bytes). EntryField Bid (byteAt (knownBytesIn L j) 0) w) (sym (bid-there j l))
           (bid-in 0 (knownBytesIn L j) .0 (bids-only (L .known) count 0 e j (omega arith) (omega arith)))
 
       back : Known → knownOk (L .known) ≡ true
       back h =
           bids-if (L .known) count 0 (λ j a k.
-          bid-in 0 (knownBytesIn L j) .1 (subst (λ (w : Bytes). Field Bid (byteAt (knownBytesIn L j) 0) w) (bid-there j (omega arith))
+          bid-in 0 (knownBytesIn L j) .1 (subst (λ (w : Bytes). EntryField Bid (byteAt (knownBytesIn L j) 0) w) (bid-there j (omega arith))
           (h j (subst (λ (n : ℕ). j < n) (sym known-count) (omega arith)))))
 
   -- THE LAW
-  pub sound-decides : Decides (beforeOk L) (Sound L)
+  pub sound-decides : Decides (beforeOk L) (BeforeRecords L)
   sound-decides =
       as-well (both-decide (ltb (L .partner) partners) _ (ltb-true (L .partner) partners, lt-ltb (L .partner) partners)
       (both-decide (leb (L .role) roleCaller) _ (role-decides (L .role))

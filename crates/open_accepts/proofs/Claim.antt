@@ -16,7 +16,7 @@ use Rattle.places.specs.Places.{numbersStart, tallyProposedAt, numbersEnd, free
 use Rattle.session_memory.specs.State.{saveSizes, sizesOut, freshTally, freshOf, numberPart, smallOut, numbersOut, tailOut, arraysOut}
 use Rattle.session_memory.proofs.Laws.{saved, sizes-saved, sizes-length}
 use Rattle.mail.specs.Mail.{recordLimit}
-use Rattle.mail.specs.Tally.{waits, waitingBytes}
+use Rattle.mail.specs.Tally.{waitingCount, waitingBytes}
 use Rattle.layout.specs.Layout.{le4}
 use Rattle.sheet.specs.Sheet.{noSheet}
 use Rattle.session_memory.specs.declared.Tally.{Tally}
@@ -25,10 +25,10 @@ use Rattle.tally.specs.Tally.{waitingIn, sizesIn, counted}
 use Rattle.entries.specs.Decoded.{recordCount, recordsOf}
 use Rattle.give.specs.Giving.{reply}
 use Rattle.give.specs.declared.Reply.{Reply}
-use Rattle.open.specs.Opening.{placeOk, faultFrom, tableFault, Opened, opened, refusedAt, sizesLent, faultIn, begun, begunIn, beforeOk, openOf}
+use Rattle.open.specs.Opening.{placeOk, faultFrom, tableFault, Opened, openedWith, refusedAt, sizesLent, faultIn, begun, begunIn, beforeOk, openOf}
 use Rattle.open.specs.Lending.{Lending, roleCaller}
-use Rattle.open_accepts.specs.Good.{IsRole, Sound, Acceptable, FirstBad}
-use Rattle.open_accepts.specs.Claim.{numbersAtFirst, tallyAtFirst, sizesKept, sessionAtFirst, Refusal, Opens, OpenClaim}
+use Rattle.open_accepts.specs.Good.{IsRole, BeforeRecords, Acceptable, FirstBad}
+use Rattle.open_accepts.specs.Claim.{numbersAtFirst, tallyAtFirst, sizesKept, sessionAtFirst, OpenRefused, Opens, OpenClaim}
 use Rattle.open_accepts.proofs.Words.{denied}
 use Rattle.open_accepts.proofs.Records.{records-count, place-decides}
 use Rattle.open_accepts.proofs.Before.{sound-decides}
@@ -98,7 +98,7 @@ numbers-are : (r p : ℕ) (table : Bytes) → IsRole r → numberPart (freshOf (
 unfolding waitingIn sizesIn
 numbers-are r p table h =
     numbers-out r p (waitingIn p table) (sizesIn p table) h
-    ∙ ap (λ (x : Bytes). numbersAtFirst r p ++ (waits (statesOf p table) ∷ (x ++ replicate (numbersEnd - tallyProposedAt) 0))) (le4-low (waitingBytes (recordsOf [] [] [] table) (statesOf p table)))
+    ∙ ap (λ (x : Bytes). numbersAtFirst r p ++ (waitingCount (statesOf p table) ∷ (x ++ replicate (numbersEnd - tallyProposedAt) 0))) (le4-low (waitingBytes (recordsOf [] [] [] table) (statesOf p table)))
 
 arrays-are : (caller : Bool) (p : ℕ) (t : Tally) → arraysOut (freshOf caller p t) ≡ replicate arraysLen 0
 unfolding freshOf arraysOut
@@ -132,12 +132,12 @@ module _ (L : Lending) where
 -- ---------------------------------------------------------------- the three situations
 
 data Situation (L : Lending) : Type 0 where
-  accepted : Acceptable L → openOf L ≡ opened (reply 0 0 0) (sessionAtFirst L) → Situation L
+  accepted : Acceptable L → openOf L ≡ openedWith (reply 0 0 0) (sessionAtFirst L) → Situation L
   badRecordAt : (i : ℕ) → FirstBad L i → openOf L ≡ refusedAt L i → Situation L
-  unsound : (Sound L → ⊥) → openOf L ≡ refusedAt L noPlace → Situation L
+  unsound : (BeforeRecords L → ⊥) → openOf L ≡ refusedAt L noPlace → Situation L
 
 module _ (L : Lending) where
-  by-tests : openOf L ≡ cond (beforeOk L) (cond (eqb (faultIn L) noPlace) (opened (reply 0 0 0) (begunIn L)) (refusedAt L (faultIn L))) (refusedAt L noPlace)
+  by-tests : openOf L ≡ cond (beforeOk L) (cond (eqb (faultIn L) noPlace) (openedWith (reply 0 0 0) (begunIn L)) (refusedAt L (faultIn L))) (refusedAt L noPlace)
   unfolding openOf
   by-tests = refl
 
@@ -154,7 +154,7 @@ module _ (L : Lending) where
           let s = sound-decides L .0 e in
           accepted
           (record { sound = s; records = λ i h. place-decides L i (subst (λ (n : ℕ). i < n) (records-count L) h) .0 (x .good i (omega arith) (subst (λ (n : ℕ). i < 0 + n) (records-count L) (omega arith))) })
-          (by-tests ∙ rw (e, eq-eqb (faultIn L) noPlace (x .is)) (ap (λ (m : Bytes). opened (reply 0 0 0) m) (left-is L (s .role) (s .session))))
+          (by-tests ∙ rw (e, eq-eqb (faultIn L) noPlace (x .is)) (ap (λ (m : Bytes). openedWith (reply 0 0 0) m) (left-is L (s .role) (s .session))))
       go true e (inr x) =
           let s = sound-decides L .0 e in
           let f = few in
@@ -235,13 +235,13 @@ accepts-exactly L = opens L (situation L)
 -- ---------------------------------------------------------------- and nothing else
 
 -- a reply with answer 0 is whole
-whole-reply : {r : Reply} → (r ≡ reply 0 0 0) ⊎ Refusal r → r .answer ≡ 0 → r ≡ reply 0 0 0
+whole-reply : {r : Reply} → (r ≡ reply 0 0 0) ⊎ OpenRefused r → r .answer ≡ 0 → r ≡ reply 0 0 0
 whole-reply (inl e) z = e
 whole-reply (inr x) z = let q = sym (ap (λ (r : Reply). r .answer) (x .is)) ∙ z in absurd (omega arith)
 
 module _ (L : Lending) (o p : Opened) (f : Opens L o) (g : Opens L p) where
   one-outcome : o .reply ≡ p .reply → o .sm ≡ p .sm → o ≡ p
-  one-outcome a b = ap (λ (r : Reply). opened r (o .sm)) a ∙ ap (λ (m : Bytes). opened (p .reply) m) b
+  one-outcome a b = ap (λ (r : Reply). openedWith r (o .sm)) a ∙ ap (λ (m : Bytes). openedWith (p .reply) m) b
 
   -- refused with the same reply
   both-refuse : (i : ℕ) → o .reply ≡ reply badMemory i 0 → p .reply ≡ reply badMemory i 0 → o ≡ p
@@ -250,7 +250,7 @@ module _ (L : Lending) (o p : Opened) (f : Opens L o) (g : Opens L p) where
       (f .refused (λ z. let q = sym (ap (λ (r : Reply). r .answer) a) ∙ z in omega arith)
       ∙ sym (g .refused (λ z. let q = sym (ap (λ (r : Reply). r .answer) b) ∙ z in omega arith)))
 
-  same-outcome : (o .reply ≡ reply 0 0 0) ⊎ Refusal (o .reply) → o ≡ p
+  same-outcome : (o .reply ≡ reply 0 0 0) ⊎ OpenRefused (o .reply) → o ≡ p
   same-outcome (inl e) =
       let z = ap (λ (r : Reply). r .answer) e in
       let y = g .accepts .1 (f .accepts .0 z) in

@@ -27,9 +27,9 @@ use Rattle.entries.specs.Decoded.{entriesFrom, entries, recordCount, recordsOf}
 use Rattle.entries.proofs.Laws.{entries-at, entries-length}
 use Rattle.marking.proofs.States.{state-read}
 use Rattle.open.specs.Opening.{lengthOk, statesFrom, statesOk, numbersOk, fieldsOk, within, headingOk, textsOk, recordOk, placeOk}
-use Rattle.open_accepts.specs.Words.{Callsign, At, Bid, Field, Lies, Headed, Bodied, NeedsTitle, NeedsName, bodyMost}
+use Rattle.open_accepts.specs.Words.{Callsign, AtField, Bid, EntryField, InStore, Headed, Bodied, NeedsTitle, NeedsName, bodyMost}
 use Rattle.open.specs.Lending.{Lending}
-use Rattle.open_accepts.specs.Lent.{recordsIn, recordIn, stateIn, bytesIn}
+use Rattle.open_accepts.specs.Lent.{recordsIn, recordIn, stateIn, recordBytes}
 use Rattle.open_accepts.specs.Good.{IsType, IsState, GoodRecord, GoodAt, sizeMost}
 use Rattle.open_accepts.proofs.Words.{Decides, both-decide, as-well, leb-decides, denied, all-decides, callsign-decides, bid-decides, heading-decides, at-decides, at-some, same-decides}
 
@@ -46,10 +46,10 @@ part-long s start len = go (leb start (length s)) (leb len (length s - start)) r
 
 -- THE LAW OF FIELDS, over the rule and the room
 module _ (Rule : Bytes → Type 0) (test : Bytes → Bool) (decides : (w : Bytes) → Decides (test w) (Rule w)) (n : ℕ) (sized : (w : Bytes) → Rule w → (1 ≤ length w) × (length w ≤ n)) where
-  pub field-decides : (at : ℕ) (c : Bytes) → Decides (lengthOk c at n && test (fieldIn n at c)) (Field Rule (byteAt c at) (fieldIn n at c))
+  pub field-decides : (at : ℕ) (c : Bytes) → Decides (lengthOk c at n && test (fieldIn n at c)) (EntryField Rule (byteAt c at) (fieldIn n at c))
   field-decides at c = (there, back)
     where
-      there : lengthOk c at n && test (fieldIn n at c) ≡ true → Field Rule (byteAt c at) (fieldIn n at c)
+      there : lengthOk c at n && test (fieldIn n at c) ≡ true → EntryField Rule (byteAt c at) (fieldIn n at c)
       there e =
           let p = and2 (lengthOk c at n) (test (fieldIn n at c)) e in
           let r = decides (fieldIn n at c) .0 (p .1) in
@@ -58,18 +58,18 @@ module _ (Rule : Bytes → Type 0) (test : Bytes → Bool) (decides : (w : Bytes
             rule = r;
           }
 
-      back : Field Rule (byteAt c at) (fieldIn n at c) → lengthOk c at n && test (fieldIn n at c) ≡ true
+      back : EntryField Rule (byteAt c at) (fieldIn n at c) → lengthOk c at n && test (fieldIn n at c) ≡ true
       back f =
           both (lengthOk c at n) (test (fieldIn n at c)) (le-leb (byteAt c at) n (subst (λ (l : ℕ). l ≤ n) (f .whole) (sized (fieldIn n at c) (f .rule) .1)))
           (decides (fieldIn n at c) .1 (f .rule))
 
-call-in : (at : ℕ) (c : Bytes) → Decides (lengthOk c at callMax && isCall (fieldIn callMax at c)) (Field Callsign (byteAt c at) (fieldIn callMax at c))
+call-in : (at : ℕ) (c : Bytes) → Decides (lengthOk c at callMax && isCall (fieldIn callMax at c)) (EntryField Callsign (byteAt c at) (fieldIn callMax at c))
 call-in at c = field-decides Callsign isCall callsign-decides callMax (λ w r. (r .notEmpty, r .short)) at c
 
-at-in : (at : ℕ) (c : Bytes) → Decides (lengthOk c at atMax && isAt (fieldIn atMax at c)) (Field At (byteAt c at) (fieldIn atMax at c))
-at-in at c = field-decides At isAt at-decides atMax (λ w r. (at-some w r, r .short)) at c
+at-in : (at : ℕ) (c : Bytes) → Decides (lengthOk c at atMax && isAt (fieldIn atMax at c)) (EntryField AtField (byteAt c at) (fieldIn atMax at c))
+at-in at c = field-decides AtField isAt at-decides atMax (λ w r. (at-some w r, r .short)) at c
 
-pub bid-in : (at : ℕ) (c : Bytes) → Decides (lengthOk c at bidMax && isBid (fieldIn bidMax at c)) (Field Bid (byteAt c at) (fieldIn bidMax at c))
+pub bid-in : (at : ℕ) (c : Bytes) → Decides (lengthOk c at bidMax && isBid (fieldIn bidMax at c)) (EntryField Bid (byteAt c at) (fieldIn bidMax at c))
 bid-in at c = field-decides Bid isBid bid-decides bidMax (λ w r. (r .notEmpty, r .short)) at c
 
 -- ---------------------------------------------------------------- form, type and state
@@ -113,7 +113,7 @@ state-decides s = (λ e. there (eqb s stateWaiting) (eqb s stateForwarded) refl 
 
 -- ---------------------------------------------------------------- title, name and body
 
-lies-decides : (s : Bytes) (x : Extent) → Decides (within s x) (Lies s x)
+lies-decides : (s : Bytes) (x : Extent) → Decides (within s x) (InStore s x)
 unfolding within
 lies-decides s x =
     as-well (both-decide (leb (x .start) (length s)) (leb (x .len) (length s - x .start)) (leb-decides (x .start) (length s)) (leb-decides (x .len) (length s - x .start)))
@@ -124,7 +124,7 @@ module _ (s : Bytes) (x : Extent) where
   w = textIn s x
 
   -- a part that lies in its store is as long as was asked
-  lying-long : Lies s x → length w ≡ x .len
+  lying-long : InStore s x → length w ≡ x .len
   lying-long h =
       rw (le-leb (x .start) (length s) (omega arith), le-leb (x .len) (length s - x .start) (omega arith))
       (length-take-le (x .len) (drop (x .start) s) (rw (length-drop (x .start) s) (omega arith)))
@@ -139,7 +139,7 @@ module _ (s : Bytes) (x : Extent) where
           let l = lies-decides s x .0 (p .0) in
           go l (lying-long l) (eqb (x .len) 0) refl (p .1)
         where
-          go : Lies s x → length w ≡ x .len → (b : Bool) → eqb (x .len) 0 ≡ b → cond b (not needed) (isHeading w) ≡ true → Headed Needed s x w
+          go : InStore s x → length w ≡ x .len → (b : Bool) → eqb (x .len) 0 ≡ b → cond b (not needed) (isHeading w) ≡ true → Headed Needed s x w
           go l n true z e =
               let k = eqb-true (x .len) 0 z in
               record { lies = l; needed = λ x. absurd (no-both needed (d .1 x) (not-true needed e)); heading = λ h. absurd (omega arith) }
@@ -232,7 +232,7 @@ module _ (L : Lending) (c : Bytes) where
       (both-decide (isType (byteAt c recordType)) (leb (le4At c recordSizeAt) sizeMost) (type-decides (byteAt c recordType)) (leb-decides (le4At c recordSizeAt) sizeMost)))
 
   fields-decide : Decides (fieldsOk c)
-      (Field Callsign (byteAt c recordFrom) (r .from) × (Field At (byteAt c recordAtField) (r .at) × (Field Callsign (byteAt c recordTo) (r .to) × Field Bid (byteAt c recordBid) (r .bid))))
+      (EntryField Callsign (byteAt c recordFrom) (r .from) × (EntryField AtField (byteAt c recordAtField) (r .at) × (EntryField Callsign (byteAt c recordTo) (r .to) × EntryField Bid (byteAt c recordBid) (r .bid))))
   unfolding fieldsOk
   fields-decide =
       both-decide (lengthOk c recordFrom callMax && isCall (fieldIn callMax recordFrom c)) _ (call-in recordFrom c)
@@ -299,7 +299,7 @@ other-states L s t c r e g =
 
 module _ (L : Lending) where
   abbrev bidAt : ℕ → Bytes
-  bidAt j = fieldIn bidMax recordBid (bytesIn L j)
+  bidAt j = fieldIn bidMax recordBid (recordBytes L j)
 
   abbrev count : ℕ
   count = recordCount (L .table)
@@ -308,11 +308,11 @@ module _ (L : Lending) where
   unfolding recordsOf
   records-count = entries-length (recordOf (L .titles) (L .names) (L .bodies)) recordLen (L .table) 0 count
 
-  record-there : (i : ℕ) → i < count → recordIn L i ≡ recordOf (L .titles) (L .names) (L .bodies) (bytesIn L i)
+  record-there : (i : ℕ) → i < count → recordIn L i ≡ recordOf (L .titles) (L .names) (L .bodies) (recordBytes L i)
   unfolding recordsOf
   record-there i h = entries-at (recordOf (L .titles) (L .names) (L .bodies)) recordLen (L .table) count i noRecord h
 
-  state-there : (i : ℕ) → i < count → (p : ℕ) → stateIn L p i ≡ stateFor p (bytesIn L i)
+  state-there : (i : ℕ) → i < count → (p : ℕ) → stateIn L p i ≡ stateFor p (recordBytes L i)
   state-there i h p = state-read p (L .table) i h
 
   bid-there : (i : ℕ) → i < count → recordIn L i .bid ≡ bidAt i
@@ -360,6 +360,6 @@ module _ (L : Lending) where
   pub place-decides : (i : ℕ) → i < count → Decides (placeOk (L .table) (L .titles) (L .names) (L .bodies) i) (GoodAt L i)
   unfolding placeOk
   place-decides i h =
-      as-well (both-decide (recordOk (bytesIn L i) (L .titles) (L .names) (L .bodies)) _ (record-decides L (bytesIn L i)) (new-decides i h))
-      (λ p. record { good = other-states L (λ (q : ℕ). stateFor q (bytesIn L i)) (λ (q : ℕ). stateIn L q i) (bytesIn L i) (recordIn L i) (λ q. sym (state-there i h q)) (subst (λ (x : Record). GoodRecord L (λ (q : ℕ). stateFor q (bytesIn L i)) (bytesIn L i) x) (sym (record-there i h)) (p .0)); new = p .1 })
-      (λ g. (subst (λ (x : Record). GoodRecord L (λ (q : ℕ). stateFor q (bytesIn L i)) (bytesIn L i) x) (record-there i h) (other-states L (λ (q : ℕ). stateIn L q i) (λ (q : ℕ). stateFor q (bytesIn L i)) (bytesIn L i) (recordIn L i) (state-there i h) (g .good)), g .new))
+      as-well (both-decide (recordOk (recordBytes L i) (L .titles) (L .names) (L .bodies)) _ (record-decides L (recordBytes L i)) (new-decides i h))
+      (λ p. record { good = other-states L (λ (q : ℕ). stateFor q (recordBytes L i)) (λ (q : ℕ). stateIn L q i) (recordBytes L i) (recordIn L i) (λ q. sym (state-there i h q)) (subst (λ (x : Record). GoodRecord L (λ (q : ℕ). stateFor q (recordBytes L i)) (recordBytes L i) x) (sym (record-there i h)) (p .0)); new = p .1 })
+      (λ g. (subst (λ (x : Record). GoodRecord L (λ (q : ℕ). stateFor q (recordBytes L i)) (recordBytes L i) x) (record-there i h) (other-states L (λ (q : ℕ). stateIn L q i) (λ (q : ℕ). stateFor q (recordBytes L i)) (recordBytes L i) (recordIn L i) (state-there i h) (g .good)), g .new))

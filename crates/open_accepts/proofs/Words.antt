@@ -16,7 +16,7 @@ use Rattle.grammar.specs.Fields.{field, callByte, bidByte, headingByte, isCall,
 use Rattle.grammar.proofs.Basics.{and2, both, no-both, field-is, field-of, Lacks, all-lacks}
 use Rattle.grammar.proofs.Fields.{call-field}
 use Rattle.byte.proofs.Laws.{all-get}
-use Rattle.open_accepts.specs.Words.{Between, CallByte, BidByte, HeadingByte, Text, Callsign, Bid, Heading, joined, afterPoint, AllParts, At, callMost, atMost, afterPointMost, bidMost, headingMost, point, atSign}
+use Rattle.open_accepts.specs.Words.{Between, CallByte, BidByte, HeadingByte, Text, Callsign, Bid, Heading, joinedByPoints, afterPoint, AllParts, AtField, callMost, atMost, afterPointMost, bidMost, headingMost, point, atSign}
 
 -- ---------------------------------------------------------------- deciding
 
@@ -93,10 +93,10 @@ record Cut (w : Bytes) : Type 0 where
   pub first : Bytes
   pub others : List Bytes
   pub cut : parts w ≡ first ∷ others
-  pub whole : w ≡ joined first others
+  pub whole : w ≡ joinedByPoints first others
   pub after : afterDot w ≡ afterPoint others
 
-join-more : (x : ℕ) (first : Bytes) (others : List Bytes) → x ∷ joined first others ≡ joined (x ∷ first) others
+join-more : (x : ℕ) (first : Bytes) (others : List Bytes) → x ∷ joinedByPoints first others ≡ joinedByPoints (x ∷ first) others
 join-more x first [] = refl
 join-more x first (next ∷ others) = refl
 
@@ -143,17 +143,17 @@ cut-first [] u h = (refl, refl)
 cut-first (x ∷ w) u h = let k = cut-first w u (h .1) in (rw (h .0, k .0), rw (h .0) (k .1))
 
 cut-joined : (first : Bytes) (others : List Bytes) → Callsign first → AllParts others
-    → (parts (joined first others) ≡ first ∷ others) × (afterDot (joined first others) ≡ afterPoint others)
+    → (parts (joinedByPoints first others) ≡ first ∷ others) × (afterDot (joinedByPoints first others) ≡ afterPoint others)
 cut-joined first [] f h = cut-last first (no-point first f)
 cut-joined first (next ∷ others) f h =
-    let k = cut-first first (joined next others) (no-point first f) in
+    let k = cut-first first (joinedByPoints next others) (no-point first f) in
     (k .0 ∙ ap (λ (ps : List Bytes). first ∷ ps) (cut-joined next others (h .0) (h .1) .0), k .1)
 
-pub at-decides : (w : Bytes) → Decides (isAt w) (At w)
+pub at-decides : (w : Bytes) → Decides (isAt w) (AtField w)
 unfolding isAt
 at-decides w = (there, back)
   where
-    there : isAt w ≡ true → At w
+    there : isAt w ≡ true → AtField w
     there e =
         let k = cut-at w in
         let p = and2 (allCalls (parts w)) (leb (length w) atMost && leb (length (afterDot w)) afterPointMost) e in
@@ -169,7 +169,7 @@ at-decides w = (there, back)
           shortAfter = leb-true (length (afterPoint (k .others))) afterPointMost (ap (λ (u : Bytes). leb (length u) afterPointMost) (sym (k .after)) ∙ q .1);
         }
 
-    back : At w → isAt w ≡ true
+    back : AtField w → isAt w ≡ true
     back h =
         let k = cut-joined (h .first) (h .others) (h .firstPart) (h .otherParts) in
         both (allCalls (parts w)) (leb (length w) atMost && leb (length (afterDot w)) afterPointMost)
@@ -179,10 +179,10 @@ at-decides w = (there, back)
         ∙ le-leb (length (afterPoint (h .others))) afterPointMost (h .shortAfter)))
 
 -- one part at least, of one byte at least
-pub at-some : (w : Bytes) → At w → 1 ≤ length w
+pub at-some : (w : Bytes) → AtField w → 1 ≤ length w
 at-some w h = subst (λ (u : Bytes). 1 ≤ length u) (sym (h .parts)) (go (h .first) (h .others) (h .firstPart .notEmpty))
   where
-    go : (first : Bytes) (others : List Bytes) → 1 ≤ length first → 1 ≤ length (joined first others)
+    go : (first : Bytes) (others : List Bytes) → 1 ≤ length first → 1 ≤ length (joinedByPoints first others)
     go [] others l = omega arith
     go (x ∷ first) [] l = omega arith
     go (x ∷ first) (next ∷ others) l = omega arith

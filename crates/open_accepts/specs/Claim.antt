@@ -12,7 +12,7 @@ use Rattle.grammar.specs.Ascii.{text}
 use Rattle.grammar.specs.Refusals.{badMemory, noPlace}
 use Rattle.phase.specs.Phase.{phaseCallerSid, pieceSidAndPrompt}
 use Rattle.places.specs.Places.{numbersStart, phaseAt, firstAt, partnerAt, tallyWaitingAt, tallyProposedAt, numbersEnd, freeLen, arraysLen, arraysEnd}
-use Rattle.mail.specs.Tally.{waits, waitingBytes}
+use Rattle.mail.specs.Tally.{waitingCount, waitingBytes}
 use Rattle.layout.specs.Layout.{le4, le8}
 use Rattle.entries.specs.Decoded.{recordsOf}
 use Rattle.marking.specs.States.{statesOf}
@@ -20,7 +20,7 @@ use Rattle.give.specs.Giving.{reply}
 use Rattle.give.specs.declared.Reply.{Reply}
 use Rattle.open.specs.Opening.{Opened, openOf}
 use Rattle.open.specs.Lending.{Lending, roleCalled}
-use Rattle.open_accepts.specs.Good.{Sound, Acceptable, FirstBad}
+use Rattle.open_accepts.specs.Good.{BeforeRecords, Acceptable, FirstBad}
 
 -- ---------------------------------------------------------------- what an accepted open leaves
 
@@ -41,7 +41,7 @@ numbersAtFirst role partner =
 -- "how many records wait and the sum of their announced sizes", for the partner, in one byte and in four; the tally sheet, "all 0 when open accepts" (02, Q-3)
 abbrev pub tallyAtFirst : ℕ → Bytes → Bytes
 tallyAtFirst partner table =
-    waits (statesOf partner table) ∷ (le4 (waitingBytes (recordsOf [] [] [] table) (statesOf partner table)) ++ replicate (numbersEnd - tallyProposedAt) 0)
+    waitingCount (statesOf partner table) ∷ (le4 (waitingBytes (recordsOf [] [] [] table) (statesOf partner table)) ++ replicate (numbersEnd - tallyProposedAt) 0)
 
 -- Session memory, from its first byte to its last: docs/MEMORY.md has the places. Free bytes stay as they are.
 abbrev pub sessionAtFirst : Lending → Bytes
@@ -53,7 +53,7 @@ sessionAtFirst L =
 -- ---------------------------------------------------------------- the claim
 
 -- Answer 1 with some place.
-pub record Refusal (r : Reply) : Type 0 where
+pub record OpenRefused (r : Reply) : Type 0 where
   pub place : ℕ
   pub is : r ≡ reply badMemory place 0
 
@@ -64,9 +64,9 @@ pub record Opens (L : Lending) (o : Opened) : Type 0 where
   -- "1: open: bad table or buffers: place = first bad record, from 0"
   pub badRecord : (i : ℕ) → i ≢ noPlace → (o .reply ≡ reply badMemory i 0) ↔ FirstBad L i
   -- "255 for role, sizes, known BIDs", and for a partner of 8 or more
-  pub badBefore : (o .reply ≡ reply badMemory noPlace 0) ↔ (Sound L → ⊥)
+  pub badBefore : (o .reply ≡ reply badMemory noPlace 0) ↔ (BeforeRecords L → ⊥)
   -- and no other answer; "Place is 0 in every answer but 1", and so is the count
-  pub noOther : (o .reply ≡ reply 0 0 0) ⊎ Refusal (o .reply)
+  pub noOther : (o .reply ≡ reply 0 0 0) ⊎ OpenRefused (o .reply)
   -- "A refused open changes no lent byte."
   pub refused : o .reply .answer ≢ 0 → o .sm ≡ L .session
   -- "Session memory: .. An accepted open changes nothing else."

@@ -22,30 +22,30 @@ use Rattle.open.specs.Lending.{Lending, lending, roleCalled, roleCaller}
 -- ---------------------------------------------------------------- what is lent
 
 -- A record in this state for every partner, with this BID: a plain text with the first title and the first eight bytes of the body store.
-abbrev pub letter : ℕ → Bytes → Bytes
-letter state bid =
+abbrev pub letterBytes : ℕ → Bytes → Bytes
+letterBytes state bid =
     recordOut (replicate partners state) (record { form = plain; type = char "P"; from = text "F0ABC"; at = text "N0SUD.TST.FRA.EU"; to = text "F0XYZ"; bid = bid; size = 160 })
     (extent 0 5) (extent 0 0) (extent 0 8)
 
-abbrev pub first : Bytes
-first = letter stateWaiting (text "101_N0NOR")
+abbrev pub firstRecord : Bytes
+firstRecord = letterBytes stateWaiting (text "101_N0NOR")
 
-abbrev pub second : Bytes
-second = letter stateForwarded (text "102_N0NOR")
+abbrev pub secondRecord : Bytes
+secondRecord = letterBytes stateForwarded (text "102_N0NOR")
 
 abbrev pub third : Bytes
-third = letter stateDeclined (text "103_N0NOR")
+third = letterBytes stateDeclined (text "103_N0NOR")
 
 -- the first one's BID in small letters
 abbrev pub small : Bytes
-small = letter stateWaiting (text "101_n0nor")
+small = letterBytes stateWaiting (text "101_n0nor")
 
 -- two that are two, though the last byte differs as the cases of a letter do
 abbrev pub bracket : Bytes
-bracket = letter stateWaiting (text "101_N0NO[")
+bracket = letterBytes stateWaiting (text "101_N0NO[")
 
 abbrev pub brace : Bytes
-brace = letter stateWaiting (text "101_N0NO{")
+brace = letterBytes stateWaiting (text "101_N0NO{")
 
 abbrev pub known : Bytes → Bytes
 known bid = fieldOut bidMax bid
@@ -62,24 +62,24 @@ aPartner = 3
 abbrev pub lastPartner : ℕ
 lastPartner = 7
 
-abbrev pub lent : ℕ → ℕ → Bytes → Bytes → ℕ → Lending
-lent role session table bids inbox = lentFor aPartner role session table bids inbox
+abbrev pub lentToOpen : ℕ → ℕ → Bytes → Bytes → ℕ → Lending
+lentToOpen role session table bids inbox = lentFor aPartner role session table bids inbox
 
 -- All good, and only the table differs.
 abbrev pub holding : Bytes → Lending
-holding table = lent roleCaller sessionLen table (known (text "7_F6FBB")) entryLen
+holding table = lentToOpen roleCaller sessionLen table (known (text "7_F6FBB")) entryLen
 
 -- ---------------------------------------------------------------- the examples
 
-pub record Example : Type 0 where
+pub record OpenExample : Type 0 where
   pub lending : Lending
   pub expected : Reply
 
-abbrev pub gets : Lending → Reply → Example
+abbrev pub gets : Lending → Reply → OpenExample
 gets L r = record { lending = L; expected = r }
 
-abbrev pub accepted : Reply
-accepted = reply 0 0 0
+abbrev pub acceptedReply : Reply
+acceptedReply = reply 0 0 0
 
 abbrev pub badBefore : Reply
 badBefore = reply badMemory noPlace 0
@@ -88,45 +88,45 @@ abbrev pub badAt : ℕ → Reply
 badAt place = reply badMemory place 0
 
 -- an empty table; the last partner; one record; records in all three states; BIDs that differ as letters do and in no letter
-abbrev pub goodOnes : List Example
+abbrev pub goodOnes : List OpenExample
 goodOnes =
-    gets (lent roleCalled sessionLen [] [] 0) accepted ∷ gets (lent roleCaller sessionLen [] [] 0) accepted ∷ gets (lentFor lastPartner roleCalled sessionLen first [] 0) accepted ∷ gets (holding first) accepted
-    ∷ gets (holding (first ++ (second ++ third))) accepted ∷ gets (holding (bracket ++ brace)) accepted ∷ []
+    gets (lentToOpen roleCalled sessionLen [] [] 0) acceptedReply ∷ gets (lentToOpen roleCaller sessionLen [] [] 0) acceptedReply ∷ gets (lentFor lastPartner roleCalled sessionLen firstRecord [] 0) acceptedReply ∷ gets (holding firstRecord) acceptedReply
+    ∷ gets (holding (firstRecord ++ (secondRecord ++ third))) acceptedReply ∷ gets (holding (bracket ++ brace)) acceptedReply ∷ []
 
 -- a partner too many, also where a record is bad; role; session memory too short; half a record; 65 records; half a known BID; a known BID with a space, one that is longer than its room; 65 inbox places
-abbrev pub badBeforeRecords : List Example
+abbrev pub badBeforeRecords : List OpenExample
 badBeforeRecords =
-    gets (lentFor partners roleCalled sessionLen [] [] 0) badBefore ∷ gets (lentFor partners roleCalled sessionLen (set first recordForm 3) [] 0) badBefore
-    ∷ gets (lent 2 sessionLen [] [] 0) badBefore ∷ gets (lent roleCalled 1023 [] [] 0) badBefore ∷ gets (lent roleCalled sessionLen (0 ∷ first) [] 0) badBefore
-    ∷ gets (lent roleCalled sessionLen (replicate (65 * recordLen) 0) [] 0) badBefore ∷ gets (lent roleCalled sessionLen [] (1 ∷ 65 ∷ []) 0) badBefore
-    ∷ gets (lent roleCalled sessionLen [] (known (text "A B")) 0) badBefore ∷ gets (lent roleCalled sessionLen [] (known (text "1234567890123")) 0) badBefore
-    ∷ gets (lent roleCalled sessionLen [] [] (65 * entryLen)) badBefore ∷ []
+    gets (lentFor partners roleCalled sessionLen [] [] 0) badBefore ∷ gets (lentFor partners roleCalled sessionLen (set firstRecord recordForm 3) [] 0) badBefore
+    ∷ gets (lentToOpen 2 sessionLen [] [] 0) badBefore ∷ gets (lentToOpen roleCalled 1023 [] [] 0) badBefore ∷ gets (lentToOpen roleCalled sessionLen (0 ∷ firstRecord) [] 0) badBefore
+    ∷ gets (lentToOpen roleCalled sessionLen (replicate (65 * recordLen) 0) [] 0) badBefore ∷ gets (lentToOpen roleCalled sessionLen [] (1 ∷ 65 ∷ []) 0) badBefore
+    ∷ gets (lentToOpen roleCalled sessionLen [] (known (text "A B")) 0) badBefore ∷ gets (lentToOpen roleCalled sessionLen [] (known (text "1234567890123")) 0) badBefore
+    ∷ gets (lentToOpen roleCalled sessionLen [] [] (65 * entryLen)) badBefore ∷ []
 
 -- One byte of a good record changed: the state for partner 0, for the session's, for the last one; form, type, from, at, to, BID, size, title, name and body, each out of its rule or out of its store.
 abbrev pub slips : List Bytes
 slips =
-    set first (statePlace 0) 3 ∷ set first (statePlace aPartner) 3 ∷ set first (statePlace lastPartner) 3 ∷ set first recordForm 3 ∷ set first recordType SP ∷ set first recordFrom 0 ∷ set first recordFrom 7 ∷ set first (recordAtField + 1) point
-    ∷ set first recordAtField 39 ∷ set first (recordTo + 1) atSign ∷ set first (recordBid + 1) SP ∷ set first recordBid 13 ∷ set first (recordSizeAt + 2) 16
-    ∷ set first recordTitle 1 ∷ set first recordTitleLength 0 ∷ set first recordName 6 ∷ set first recordForm (formNumber file)
-    ∷ set first recordBodyLength 9 ∷ set first recordBodyLength 10 ∷ []
+    set firstRecord (statePlace 0) 3 ∷ set firstRecord (statePlace aPartner) 3 ∷ set firstRecord (statePlace lastPartner) 3 ∷ set firstRecord recordForm 3 ∷ set firstRecord recordType SP ∷ set firstRecord recordFrom 0 ∷ set firstRecord recordFrom 7 ∷ set firstRecord (recordAtField + 1) point
+    ∷ set firstRecord recordAtField 39 ∷ set firstRecord (recordTo + 1) atSign ∷ set firstRecord (recordBid + 1) SP ∷ set firstRecord recordBid 13 ∷ set firstRecord (recordSizeAt + 2) 16
+    ∷ set firstRecord recordTitle 1 ∷ set firstRecord recordTitleLength 0 ∷ set firstRecord recordName 6 ∷ set firstRecord recordForm (formNumber file)
+    ∷ set firstRecord recordBodyLength 9 ∷ set firstRecord recordBodyLength 10 ∷ []
 
-abbrev pub badAlone : Bytes → Example
+abbrev pub badAlone : Bytes → OpenExample
 badAlone table = gets (holding table) (badAt 0)
 
 -- behind a good one; two of one BID, spelt alike and not; the first of two bad ones
-abbrev pub badLater : List Example
+abbrev pub badLater : List OpenExample
 badLater =
-    gets (holding (second ++ set first recordForm 3)) (badAt 1) ∷ gets (holding (first ++ (second ++ first))) (badAt 2) ∷ gets (holding (first ++ small)) (badAt 1)
-    ∷ gets (holding (first ++ (set second (statePlace 0) 3 ++ set third (statePlace 0) 3))) (badAt 1) ∷ []
+    gets (holding (secondRecord ++ set firstRecord recordForm 3)) (badAt 1) ∷ gets (holding (firstRecord ++ (secondRecord ++ firstRecord))) (badAt 2) ∷ gets (holding (firstRecord ++ small)) (badAt 1)
+    ∷ gets (holding (firstRecord ++ (set secondRecord (statePlace 0) 3 ++ set third (statePlace 0) 3))) (badAt 1) ∷ []
 
-abbrev pub examples : List Example
-examples = goodOnes ++ (badBeforeRecords ++ (map badAlone slips ++ badLater))
+abbrev pub openExamples : List OpenExample
+openExamples = goodOnes ++ (badBeforeRecords ++ (map badAlone slips ++ badLater))
 
-abbrev pub answered : Example → Reply
-answered e = openOf (e .lending) .reply
+abbrev pub openAnswered : OpenExample → Reply
+openAnswered e = openOf (e .lending) .reply
 
-abbrev pub expected : Example → Reply
-expected e = e .expected
+abbrev pub openExpected : OpenExample → Reply
+openExpected e = e .expected
 
 -- ---------------------------------------------------------------- wrong opens
 

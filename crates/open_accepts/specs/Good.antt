@@ -12,9 +12,9 @@ use Rattle.mail.specs.Mail.{Record, recordLimit, placeLimit}
 use Rattle.phase.specs.Phase.{stateWaiting, stateForwarded, stateDeclined}
 use Rattle.places.specs.Places.{recordForm, recordFrom, recordAtField, recordTo, recordBid, recordLen, partners, knownLen, entryLen, sessionLen}
 use Rattle.layout.specs.Layout.{byteAt, titleExtent, nameExtent, bodyExtent}
-use Rattle.open_accepts.specs.Words.{Callsign, At, Bid, Field, Headed, Bodied, NeedsTitle, NeedsName}
+use Rattle.open_accepts.specs.Words.{Callsign, AtField, Bid, EntryField, Headed, Bodied, NeedsTitle, NeedsName}
 use Rattle.open.specs.Lending.{Lending, roleCalled, roleCaller}
-use Rattle.open_accepts.specs.Lent.{recordsIn, recordIn, stateIn, bytesIn, knownIn, bidIn, knownBytesIn}
+use Rattle.open_accepts.specs.Lent.{recordsIn, recordIn, stateIn, recordBytes, knownIn, bidIn, knownBytesIn}
 use Rattle.entries.specs.Decoded.{knownLimit}
 
 -- ---------------------------------------------------------------- before the records
@@ -30,7 +30,7 @@ pub record Entries (size most : ℕ) (s : Bytes) : Type 0 where
   pub limit : count ≤ most
 
 -- All that open checks before the records.
-pub record Sound (L : Lending) : Type 0 where
+pub record BeforeRecords (L : Lending) : Type 0 where
   -- "partner 8 or more gets 1 with place 255, tested first"
   pub partner : L .partner < partners
   pub role : IsRole (L .role)
@@ -40,7 +40,7 @@ pub record Sound (L : Lending) : Type 0 where
   pub table : Entries recordLen recordLimit (L .table)
   -- "Known BIDs: up to 1,024 .. one outside the BID rule below is a bad buffer"
   pub known : Entries knownLen knownLimit (L .known)
-  pub bids : (j : ℕ) → j < length (knownIn L) → Field Bid (byteAt (knownBytesIn L j) 0) (bidIn L j)
+  pub bids : (j : ℕ) → j < length (knownIn L) → EntryField Bid (byteAt (knownBytesIn L j) 0) (bidIn L j)
   -- "Inbox: up to 64 messages"
   pub inbox : Entries entryLen placeLimit (L .inbox)
 
@@ -65,10 +65,10 @@ pub record GoodRecord (L : Lending) (s : ℕ → ℕ) (c : Bytes) (r : Record) :
   pub type : IsType (r .type)
   -- "one state a partner, 0 to 7": every one of them, whoever the partner is
   pub states : (p : ℕ) → p < partners → IsState (s p)
-  pub from : Field Callsign (byteAt c recordFrom) (r .from)
-  pub at : Field At (byteAt c recordAtField) (r .at)
-  pub to : Field Callsign (byteAt c recordTo) (r .to)
-  pub bid : Field Bid (byteAt c recordBid) (r .bid)
+  pub from : EntryField Callsign (byteAt c recordFrom) (r .from)
+  pub at : EntryField AtField (byteAt c recordAtField) (r .at)
+  pub to : EntryField Callsign (byteAt c recordTo) (r .to)
+  pub bid : EntryField Bid (byteAt c recordBid) (r .bid)
   pub size : r .size ≤ sizeMost
   pub title : Headed (NeedsTitle (r .form)) (L .titles) (titleExtent c) (r .title)
   pub name : Headed (NeedsName (r .form)) (L .names) (nameExtent c) (r .name)
@@ -76,7 +76,7 @@ pub record GoodRecord (L : Lending) (s : ℕ → ℕ) (c : Bytes) (r : Record) :
 
 -- The record at place i, counted from 0.
 pub record GoodAt (L : Lending) (i : ℕ) : Type 0 where
-  pub good : GoodRecord L (λ (p : ℕ). stateIn L p i) (bytesIn L i) (recordIn L i)
+  pub good : GoodRecord L (λ (p : ℕ). stateIn L p i) (recordBytes L i) (recordIn L i)
   -- "of two records with one BID the later is bad"
   pub new : (j : ℕ) → j < i → OneBid (recordIn L j .bid) (recordIn L i .bid) → ⊥
 
@@ -84,12 +84,12 @@ pub record GoodAt (L : Lending) (i : ℕ) : Type 0 where
 
 -- Nothing is bad.
 pub record Acceptable (L : Lending) : Type 0 where
-  pub sound : Sound L
+  pub sound : BeforeRecords L
   pub records : (i : ℕ) → i < length (recordsIn L) → GoodAt L i
 
 -- "place = first bad record, from 0"
 pub record FirstBad (L : Lending) (i : ℕ) : Type 0 where
-  pub sound : Sound L
+  pub sound : BeforeRecords L
   pub there : i < length (recordsIn L)
   pub bad : GoodAt L i → ⊥
   pub before : (j : ℕ) → j < i → GoodAt L j

@@ -20,8 +20,8 @@ recordIn L i = recordAt (recordsIn L) i
 abbrev pub stateIn : Lending → ℕ → ℕ → ℕ
 stateIn L p i = getD (statesOf p (L .table)) i 0
 
-abbrev pub bytesIn : Lending → ℕ → Bytes
-bytesIn L i = entryAt recordLen (L .table) i
+abbrev pub recordBytes : Lending → ℕ → Bytes
+recordBytes L i = entryAt recordLen (L .table) i
 
 -- The known BIDs, each as read, and the bytes where it stands.
 abbrev pub knownIn : Lending → List Bytes

@@ -83,24 +83,24 @@ abbrev pub Heading : Bytes → Type 0
 Heading w = Text HeadingByte headingMost w
 
 -- "joined by `.`": a first part, and the others each after a point
-abbrev pub joined : Bytes → List Bytes → Bytes
-joined first [] = first
-joined first (next ∷ others) = first ++ (point ∷ joined next others)
+abbrev pub joinedByPoints : Bytes → List Bytes → Bytes
+joinedByPoints first [] = first
+joinedByPoints first (next ∷ others) = first ++ (point ∷ joinedByPoints next others)
 
 -- what stands "after the first `.`"
 abbrev pub afterPoint : List Bytes → Bytes
 afterPoint [] = []
-afterPoint (next ∷ others) = joined next others
+afterPoint (next ∷ others) = joinedByPoints next others
 
 abbrev pub AllParts : List Bytes → Type 0
 AllParts [] = Unit {0}
 AllParts (p ∷ ps) = Callsign p × AllParts ps
 
 -- "At is one to several parts of 1 to 6 such bytes joined by `.`, 38 bytes in all and 31 after the first `.` at most."
-pub record At (w : Bytes) : Type 0 where
+pub record AtField (w : Bytes) : Type 0 where
   pub first : Bytes
   pub others : List Bytes
-  pub parts : w ≡ joined first others
+  pub parts : w ≡ joinedByPoints first others
   pub firstPart : Callsign first
   pub otherParts : AllParts others
   pub short : length w ≤ atMost
@@ -110,7 +110,7 @@ pub record At (w : Bytes) : Type 0 where
 
 -- A field in its entry: "one byte for its length, then its bytes" (docs/MEMORY.md). w, the bytes read, has as many as that byte says, so the room
 -- of the entry is not passed; and they obey a rule.
-pub record Field (Rule : Bytes → Type 0) (says : ℕ) (w : Bytes) : Type 0 where
+pub record EntryField (Rule : Bytes → Type 0) (says : ℕ) (w : Bytes) : Type 0 where
   pub whole : length w ≡ says
   pub rule : Rule w
 
@@ -126,17 +126,17 @@ NeedsName message = ⊥
 NeedsName file = Unit {0}
 
 -- "Title, name and body are a start and a length in three lent stores."
-abbrev pub Lies : Bytes → Extent → Type 0
-Lies store e = e .start + e .len ≤ length store
+abbrev pub InStore : Bytes → Extent → Type 0
+InStore store e = e .start + e .len ≤ length store
 
 -- A title or name: one that is needed is not empty; "the unused one may be empty, else the same bytes and length hold."
 pub record Headed (Needed : Type 0) (store : Bytes) (e : Extent) (w : Bytes) : Type 0 where
-  pub lies : Lies store e
+  pub lies : InStore store e
   pub needed : Needed → 1 ≤ length w
   pub heading : 1 ≤ length w → Heading w
 
 -- "A body has at most 65,535 bytes; a plain body holds no 0x1A."
 pub record Bodied (form : Form) (store : Bytes) (e : Extent) (w : Bytes) : Type 0 where
-  pub lies : Lies store e
+  pub lies : InStore store e
   pub short : length w ≤ bodyMost
   pub fair : form ≡ plain → (k : ℕ) → k < length w → getD w k 0 ≢ CTRLZ

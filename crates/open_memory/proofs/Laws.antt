@@ -13,7 +13,7 @@ use Rattle.buffer.specs.Put.{wrote, putBytes}
 use Rattle.region.specs.Region.{region, lent}
 use Rattle.transfer_step.specs.Step.{startOf}
 use Rattle.transfer_step.specs.declared.Reader.{Reader}
-use Rattle.session_memory.specs.State.{at, noFive, termsWith, saveOf, freshOf}
+use Rattle.session_memory.specs.State.{cursorAt, noFive, termsWith, saveOf, freshOf}
 use Rattle.session_memory.specs.declared.Five.{Five}
 use Rattle.session_memory.specs.declared.Tally.{Tally}
 use Rattle.session_memory.specs.Session.{Session}
@@ -32,7 +32,7 @@ fresh-called {p = p} {t = t} e k = ap (λ (h : Numbers). wholeOf h (replicate ar
 
 -- zeros in the place of the arrays, then the numbers
 pub fresh-saved : (sm : Bytes) → length sm ≡ sessionLen → (h : Numbers) {s : Session} {m x : Bytes} → m ≡ wrote sm arraysAt (replicate arraysLen 0)
-    → wholeOf h (replicate arraysLen 0) ≡ s → x ≡ putBytes m (at places.numbersStart) (numberBytes h) → x ≡ saveOf sm s
+    → wholeOf h (replicate arraysLen 0) ≡ s → x ≡ putBytes m (cursorAt places.numbersStart) (numberBytes h) → x ≡ saveOf sm s
 unfolding lent
 fresh-saved sm n h e f g =
     let z : Bytes = replicate arraysLen 0 in
@@ -40,7 +40,7 @@ fresh-saved sm n h e f g =
     let k : wrote sm arraysAt z ≡ lent arraysAt arraysLen sm z =
     ap (λ (i : ℕ). take arraysAt sm ++ (z ++ drop (arraysAt + i) sm)) l
     ∙ ap (λ (y : Bytes). take arraysAt sm ++ (z ++ y)) (sym (drop-drop arraysLen arraysAt sm)) in
-    g ∙ ap (λ (y : Bytes). putBytes y (at places.numbersStart) (numberBytes h)) (e ∙ k) ∙ save-whole sm h z n l ∙ ap (saveOf sm) f
+    g ∙ ap (λ (y : Bytes). putBytes y (cursorAt places.numbersStart) (numberBytes h)) (e ∙ k) ∙ save-whole sm h z n l ∙ ap (saveOf sm) f
 
 -- the parts of the numbers
 pub numbers-are : (partner : ℕ) (t : Tally) (awaited first : ℕ) {f : Five} {r : Reader} → f ≡ noFive → r ≡ startOf 0

@@ -16,11 +16,11 @@ use Rattle.session_memory.specs.State.{held}
 use Rattle.session_memory.specs.declared.Five.{Five}
 use Rattle.five.specs.Filled.{Filled}
 use Rattle.five.proofs.Laws.{filled-length}
-use Rattle.our_answer.specs.Promises.{proposalsAt}
+use Rattle.our_answer.specs.Promises.{blockProposals}
 
 module _ (bid block : Bytes) (f : Five) (j : ℕ) where
   abbrev left : ℕ → Bool
-  left k = among bid (proposalBids (proposalsAt block (drop k (held f))))
+  left k = among bid (proposalBids (blockProposals block (drop k (held f))))
 
   abbrev bidThere : Bytes
   bidThere = fieldIn bidMax bidAt (entryAt proposalLen block (getD (f .items) j 0))

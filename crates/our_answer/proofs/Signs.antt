@@ -13,7 +13,7 @@ use Rattle.grammar.specs.Bytes.{Bytes}
 use Rattle.grammar.specs.Turns.{Proposal}
 use Rattle.grammar.specs.Answers.{Sign, accept, decline, defer, writeSign, plusSign, minusSign, equalSign}
 use Rattle.grammar.proofs.Basics.{or2}
-use Rattle.grammar.specs.Fields.{bodyLimit}
+use Rattle.grammar.specs.Fields.{bodyMax}
 use Rattle.mail.specs.Mail.{Message}
 use Rattle.session.specs.Choices.{Shelf, among, recordBids, messageBids, proposalBids, bodyBytes, announced, haveBid, noRoomFor, signFor, withAccepted, answersAfter, answersTo}
 use Rattle.places.specs.Places.{bidAt, bidMax, proposalSizeAt, recordBid, entryLen, knownLen, proposalLen, recordLen}
@@ -23,9 +23,9 @@ use Rattle.session_memory.specs.State.{held, fiveOf}
 use Rattle.session_memory.specs.declared.Five.{Five}
 use Rattle.our_answer.specs.declared.Promised.{Promised}
 use Rattle.entries.specs.Decoded.{entriesFrom, entries, recordCount, knownCount, recordsOf, knownBids, headsOf, placeCount, proposalsOf}
-use Rattle.our_answer.specs.Answers.{shelfOf}
+use Rattle.our_answer.specs.Answers.{shelfWithFree}
 use Rattle.five.specs.Filled.{Filled}
-use Rattle.our_answer.specs.Promises.{proposalsAt, promisedIn, Promises, noRoomBy}
+use Rattle.our_answer.specs.Promises.{blockProposals, promisedIn, Promises, noRoomBy}
 use Rattle.entries.proofs.Laws.{entries-more, entries-all, entries-end, entries-length, record-bids, message-bids, no-bodies}
 use Rattle.five.proofs.Laws.{five-held, five-filled, five-count, five-next}
 
@@ -34,7 +34,7 @@ use Rattle.five.proofs.Laws.{five-held, five-filled, five-count, five-next}
 -- where a BID may be, in the code's order
 module _ (table known inbox bid : Bytes) (kept : ℕ) (acc : List Proposal) where
   abbrev has : Bool
-  has = haveBid (shelfOf table known inbox 0) (headsOf inbox kept) acc bid
+  has = haveBid (shelfWithFree table known inbox 0) (headsOf inbox kept) acc bid
 
   abbrev inTable : ℕ → Bool
   inTable n = among bid (entries (fieldIn bidMax recordBid) recordLen table n)
@@ -63,7 +63,7 @@ module _ (table known inbox bid : Bytes) (kept : ℕ) (acc : List Proposal) wher
   has-promised e f h k l d = rw (has-is, ← e, ← f, h, k, l) d
 
 -- as many proposals as places
-at-length : (block : Bytes) (xs : List ℕ) → length (proposalsAt block xs) ≡ length xs
+at-length : (block : Bytes) (xs : List ℕ) → length (blockProposals block xs) ≡ length xs
 at-length block [] = refl
 at-length block (x ∷ xs) = ap suc (at-length block xs)
 
@@ -72,7 +72,7 @@ promises-length block p e = at-length block (held (p .places)) ∙ sym (five-cou
 
 -- the room in numbers
 room-is : (table known inbox block : Bytes) (kept free size : ℕ) (p : Promised) → Promises block free p
-    → noRoomFor (shelfOf table known inbox free) (headsOf inbox kept) (promisedIn block p) size ≡ noRoomBy size free (placeCount inbox) kept p
+    → noRoomFor (shelfWithFree table known inbox free) (headsOf inbox kept) (promisedIn block p) size ≡ noRoomBy size free (placeCount inbox) kept p
 unfolding headsOf
 room-is table known inbox block kept free size p a =
     let h : Bytes → Message = λ c. messageIn c [] in
@@ -81,10 +81,10 @@ room-is table known inbox block kept free size p a =
 -- the sign by what is known of the BID and of the room
 module _ (table known inbox block : Bytes) (kept free i : ℕ) (p : Promised) {c bid : Bytes} {size places : ℕ} {h f : Bool} (a : Promises block free p)
     (ec : c ≡ entryAt proposalLen block i) (eb : bid ≡ fieldIn bidMax bidAt c) (es : size ≡ le4At c proposalSizeAt)
-    (eh : h ≡ haveBid (shelfOf table known inbox 0) (headsOf inbox kept) (promisedIn block p) bid)
+    (eh : h ≡ haveBid (shelfWithFree table known inbox 0) (headsOf inbox kept) (promisedIn block p) bid)
     (ep : places ≡ placeCount inbox) (ef : f ≡ noRoomBy size free places kept p) where
   abbrev signed : ℕ
-  signed = writeSign (signFor (shelfOf table known inbox free) (headsOf inbox kept) (promisedIn block p) (proposalIn (entryAt proposalLen block i)))
+  signed = writeSign (signFor (shelfWithFree table known inbox free) (headsOf inbox kept) (promisedIn block p) (proposalIn (entryAt proposalLen block i)))
 
   signed-is : signed ≡ writeSign (cond h decline (cond f defer accept))
   signed-is = rw (← ec, ← eb, ← es, room-is table known inbox block kept free size p a, ← eh, ← ep, ← ef)
@@ -117,7 +117,7 @@ accept-room true full h = let z : ⊥ = omega arith in absurd z
 accept-room false true h = let z : ⊥ = omega arith in absurd z
 accept-room false false h = refl
 
-at-append : (block : Bytes) (xs : List ℕ) (x : ℕ) → proposalsAt block (xs ++ (x ∷ [])) ≡ proposalsAt block xs ++ (proposalIn (entryAt proposalLen block x) ∷ [])
+at-append : (block : Bytes) (xs : List ℕ) (x : ℕ) → blockProposals block (xs ++ (x ∷ [])) ≡ blockProposals block xs ++ (proposalIn (entryAt proposalLen block x) ∷ [])
 at-append block [] x = refl
 at-append block (y ∷ xs) x = ap (λ (l : List Proposal). proposalIn (entryAt proposalLen block y) ∷ l) (at-append block xs x)
 
@@ -131,10 +131,10 @@ module _ (table known inbox block : Bytes) (kept free n : ℕ) where
 
   -- the sign for proposal i after those of p, and the sign bytes from it on
   abbrev pub signAt : Promised → ℕ → Sign
-  signAt p i = signFor (shelfOf table known inbox free) (headsOf inbox kept) (promisedIn block p) (at i)
+  signAt p i = signFor (shelfWithFree table known inbox free) (headsOf inbox kept) (promisedIn block p) (at i)
 
   abbrev pub signsFrom : List Proposal → ℕ → List ℕ
-  signsFrom acc i = map writeSign (answersAfter (shelfOf table known inbox free) (headsOf inbox kept) acc (entriesFrom proposalIn proposalLen block i (n - i)))
+  signsFrom acc i = map writeSign (answersAfter (shelfWithFree table known inbox free) (headsOf inbox kept) acc (entriesFrom proposalIn proposalLen block i (n - i)))
 
   signs-next : (p : Promised) (i : ℕ) → i < n
       → signsFrom (promisedIn block p) i ≡ writeSign (signAt p i) ∷ signsFrom (withAccepted (signAt p i) (at i) (promisedIn block p)) (i + 1)
@@ -185,11 +185,11 @@ module _ (table known inbox block : Bytes) (kept free n : ℕ) where
     pub accepted-fits : sign ≡ plusSign → p .bytes + le4At (entryAt proposalLen block i) proposalSizeAt ≤ free
     accepted-fits a =
         let size = le4At (entryAt proposalLen block i) proposalSizeAt in
-        let r = accept-room (haveBid (shelfOf table known inbox free) (headsOf inbox kept) (promisedIn block p) (at i .bid))
-        (noRoomFor (shelfOf table known inbox free) (headsOf inbox kept) (promisedIn block p) size) (sym s ∙ a) in
+        let r = accept-room (haveBid (shelfWithFree table known inbox free) (headsOf inbox kept) (promisedIn block p) (at i .bid))
+        (noRoomFor (shelfWithFree table known inbox free) (headsOf inbox kept) (promisedIn block p) size) (sym s ∙ a) in
         let b = sym (room-is table known inbox block kept free size p (c .promises)) ∙ r in
         let d = or2 (ltb (free - p .bytes) size) (not (ltb (kept + p .places .count) (placeCount inbox)))
-        (or2 (ltb bodyLimit size) (ltb (free - p .bytes) size || not (ltb (kept + p .places .count) (placeCount inbox))) b .1) in
+        (or2 (ltb bodyMax size) (ltb (free - p .bytes) size || not (ltb (kept + p .places .count) (placeCount inbox))) b .1) in
         omega (arith, ltb-false (free - p .bytes) size (d .0), c .promises .room)
 
     pub answering-accepted : {f : Five} {q : Promised} → sign ≡ plusSign → f ≡ fiveOf (held signs ++ (sign ∷ [])) → q .places ≡ fiveOf (held (p .places) ++ (i ∷ []))
@@ -197,7 +197,7 @@ module _ (table known inbox block : Bytes) (kept free n : ℕ) where
     answering-accepted {f} {q} a e d b l =
         let xs = held (p .places) ++ (i ∷ []) in
         let m : q .places .count ≡ p .places .count + 1 = five-next (q .places) (p .places) i (c .promises .filled) d in
-        let ps : promisedIn block q ≡ promisedIn block p ++ (at i ∷ []) = ap (proposalsAt block) (five-held (q .places) xs d) ∙ at-append block (held (p .places)) i in
+        let ps : promisedIn block q ≡ promisedIn block p ++ (at i ∷ []) = ap (blockProposals block) (five-held (q .places) xs d) ∙ at-append block (held (p .places)) i in
         record {
           filled = five-filled f (held signs ++ (sign ∷ [])) e;
           each = each-next e;
@@ -212,15 +212,15 @@ module _ (table known inbox block : Bytes) (kept free n : ℕ) where
         }
 
   pub answered-now : {signs : Five} {p : Promised} {i : ℕ} → n ≤ i → Answering signs p i
-      → signs ≡ fiveOf (map writeSign (answersTo (shelfOf table known inbox free) (headsOf inbox kept) (proposalsOf block n)))
+      → signs ≡ fiveOf (map writeSign (answersTo (shelfWithFree table known inbox free) (headsOf inbox kept) (proposalsOf block n)))
   unfolding answersTo proposalsOf
   answered-now {signs} {p} {i} h c =
       let w : signsFrom [] 0 ≡ held signs =
       c .whole
-      ∙ ap (λ (l : List Proposal). held signs ++ map writeSign (answersAfter (shelfOf table known inbox free) (headsOf inbox kept) (promisedIn block p) l))
+      ∙ ap (λ (l : List Proposal). held signs ++ map writeSign (answersAfter (shelfWithFree table known inbox free) (headsOf inbox kept) (promisedIn block p) l))
       (entries-end proposalIn proposalLen block i n h)
       ∙ append-nil (held signs) in
-      c .filled ∙ ap fiveOf (sym w ∙ ap (λ (l : List Proposal). map writeSign (answersAfter (shelfOf table known inbox free) (headsOf inbox kept) [] l))
+      c .filled ∙ ap fiveOf (sym w ∙ ap (λ (l : List Proposal). map writeSign (answersAfter (shelfWithFree table known inbox free) (headsOf inbox kept) [] l))
       (sym (entries-all proposalIn proposalLen block n)))
 
 -- ---------------------------------------------------------------- for callers

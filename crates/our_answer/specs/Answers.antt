@@ -12,10 +12,10 @@ use Rattle.session_memory.specs.Session.{Keep}
 use Rattle.entries.specs.Decoded.{recordsOf, knownBids, headsOf, proposalsOf, placeCount}
 
 -- A shelf whose store has so many bytes left for bodies.
-abbrev pub shelfOf : Bytes → Bytes → Bytes → ℕ → Shelf
-shelfOf table known inbox free = shelfWith (recordsOf [] [] [] table) (knownBids known) (placeCount inbox) free
+abbrev pub shelfWithFree : Bytes → Bytes → Bytes → ℕ → Shelf
+shelfWithFree table known inbox free = shelfWith (recordsOf [] [] [] table) (knownBids known) (placeCount inbox) free
 
 -- The sign bytes of our answers to the proposals in the block; store: how many bytes the inbox store has
 unfoldable pub answersOf : Await → Keep → Bytes → Bytes → Bytes → ℕ → Five
 answersOf w k table known inbox store =
-    fiveOf (map writeSign (answersTo (shelfOf table known inbox (store - k .used)) (headsOf inbox (k .kept)) (proposalsOf (w .block) (min blockLimit (w .proposals)))))
+    fiveOf (map writeSign (answersTo (shelfWithFree table known inbox (store - k .used)) (headsOf inbox (k .kept)) (proposalsOf (w .block) (min blockLimit (w .proposals)))))

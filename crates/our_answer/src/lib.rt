@@ -23,8 +23,8 @@ ghost use Rattle.session_memory.specs.State.{held, fiveOf};
 ghost use Rattle.numbers.specs.Whole.{Arrays, withBlock, awaitOf, keepWith};
 ghost use Rattle.entries.specs.Decoded.{headsOf};
 ghost use Rattle.five.specs.Filled.{Filled};
-ghost use Rattle.our_answer.specs.Answers.{shelfOf, answersOf};
-ghost use Rattle.our_answer.specs.Promises.{proposalsAt, promisedIn, Promises, noRoomBy};
+ghost use Rattle.our_answer.specs.Answers.{shelfWithFree, answersOf};
+ghost use Rattle.our_answer.specs.Promises.{blockProposals, promisedIn, Promises, noRoomBy};
 
 // 01, "Fields": the longest body.
 const BODY_MAX: usize = places::BODY_MAX as usize;
@@ -38,7 +38,7 @@ pub struct Promised {
 // One of the proposals at these places of the block has this BID.
 fn promised_bid(block: &[u8], places: Five, bid: &[u8]) -> bool
     requires { ⌜ (Filled places) × (places .count ≤ blockLimit) ⌝ }
-    ensures { λ r. ⌜ r ≡ among (now (bid .entry)) (proposalBids (proposalsAt (now (block .entry)) (held places))) ⌝ }
+    ensures { λ r. ⌜ r ≡ among (now (bid .entry)) (proposalBids (blockProposals (now (block .entry)) (held places))) ⌝ }
 {
     let n = places.count as usize;
     let mut j = 0usize;
@@ -70,7 +70,7 @@ fn have_bid(
     places: Five,
 ) -> bool
     requires { ⌜ (Filled places) × (places .count ≤ blockLimit) ⌝ }
-    ensures { λ r. ⌜ r ≡ haveBid (shelfOf (now (table .entry)) (now (known .entry)) (now (inbox .entry)) 0) (headsOf (now (inbox .entry)) kept) (proposalsAt (now (block .entry)) (held places)) (now (bid .entry)) ⌝ }
+    ensures { λ r. ⌜ r ≡ haveBid (shelfWithFree (now (table .entry)) (now (known .entry)) (now (inbox .entry)) 0) (headsOf (now (inbox .entry)) kept) (blockProposals (now (block .entry)) (held places)) (now (bid .entry)) ⌝ }
 {
     if has_bid(
         places::RECORD,
@@ -119,7 +119,7 @@ fn sign_for(
     free: usize,
 ) -> u8
     requires { ⌜ Promises (now block) free p ⌝ }
-    ensures { λ r. ⌜ r ≡ writeSign (signFor (shelfOf (now (table .entry)) (now (known .entry)) (now (inbox .entry)) free) (headsOf (now (inbox .entry)) kept) (promisedIn (now (block .entry)) p) (proposalIn (entryAt proposalLen (now (block .entry)) i))) ⌝ }
+    ensures { λ r. ⌜ r ≡ writeSign (signFor (shelfWithFree (now (table .entry)) (now (known .entry)) (now (inbox .entry)) free) (headsOf (now (inbox .entry)) kept) (promisedIn (now (block .entry)) p) (proposalIn (entryAt proposalLen (now (block .entry)) i))) ⌝ }
 {
     let proposal = entry(places::PROPOSAL, block, i);
     let bid = layout::field(proposal, places::BID, places::BID_MAX);

@@ -7,10 +7,10 @@ ghost use Rattle.grammar.specs.Bytes.{CR};
 ghost use Rattle.grammar.specs.Fields.{formIs, decimal};
 ghost use Rattle.grammar.specs.Turns.{fixedText, proposalLine, withCr, formLetter};
 ghost use Rattle.buffer.specs.Put.{Puts};
-ghost use Rattle.our_line.specs.Lines.{fixedIs, proposalIs, fsText};
+ghost use Rattle.our_line.specs.Lines.{fixedIs, proposalOfFields, fsText};
 
 // The lines that never differ: our SID, the prompt, `FF`, `FQ`, `F>`, which ends a block, and the two that say why we hang up.
-pub enum Fixed {
+pub enum FixedKind {
     Sid,
     Prompt,
     FF,
@@ -21,22 +21,22 @@ pub enum Fixed {
 }
 
 // One of the lines that never differ.
-pub fn write_fixed(which: Fixed, buf: &mut [u8], c: Cursor) -> Cursor
+pub fn write_fixed(which: FixedKind, buf: &mut [u8], c: Cursor) -> Cursor
     ensures { λ r. ⌜ Puts (now (buf .entry)) c (withCr (fixedText (fixedIs which))) r (now (buf .exit)) ⌝ }
 {
     match which {
-        Fixed::Sid => buffer::put(buf, c, b"[NOD-1-B1FH$]\r"),
-        Fixed::Prompt => buffer::put(buf, c, b">\r"),
-        Fixed::FF => buffer::put(buf, c, b"FF\r"),
-        Fixed::FQ => buffer::put(buf, c, b"FQ\r"),
-        Fixed::End => buffer::put(buf, c, b"F>\r"),
-        Fixed::ProtocolError => buffer::put(buf, c, b"*** Protocol error\r"),
-        Fixed::ChecksumError => buffer::put(buf, c, b"*** Checksum error\r"),
+        FixedKind::Sid => buffer::put(buf, c, b"[NOD-1-B1FH$]\r"),
+        FixedKind::Prompt => buffer::put(buf, c, b">\r"),
+        FixedKind::FF => buffer::put(buf, c, b"FF\r"),
+        FixedKind::FQ => buffer::put(buf, c, b"FQ\r"),
+        FixedKind::End => buffer::put(buf, c, b"F>\r"),
+        FixedKind::ProtocolError => buffer::put(buf, c, b"*** Protocol error\r"),
+        FixedKind::ChecksumError => buffer::put(buf, c, b"*** Checksum error\r"),
     }
 }
 
 // The form of a packed message.
-const MESSAGE: u8 = phase::FORM_MESSAGE;
+const FORM_MESSAGE: u8 = phase::FORM_MESSAGE;
 
 // The size, which ends the line.
 fn put_size(buf: &mut [u8], c: Cursor, size: u32) -> Cursor
@@ -52,7 +52,7 @@ fn put_size(buf: &mut [u8], c: Cursor, size: u32) -> Cursor
 fn letter(form: u8) -> u8
     ensures { λ r. ⌜ r ≡ formLetter (formIs form) ⌝ }
 {
-    if form == MESSAGE {
+    if form == FORM_MESSAGE {
         return b'A';
     }
     b'B'
@@ -70,7 +70,7 @@ pub fn write_proposal(
     bid: &[u8],
     size: u32,
 ) -> Cursor
-    ensures { λ r. ⌜ Puts (now (buf .entry)) c (withCr (proposalLine (proposalIs form kind (now (from .entry)) (now (at .entry)) (now (to .entry)) (now (bid .entry)) size))) r (now (buf .exit)) ⌝ }
+    ensures { λ r. ⌜ Puts (now (buf .entry)) c (withCr (proposalLine (proposalOfFields form kind (now (from .entry)) (now (at .entry)) (now (to .entry)) (now (bid .entry)) size))) r (now (buf .exit)) ⌝ }
 {
     let start = [b'F', letter(form), b' ', kind, b' '];
     let c1 = buffer::put(buf, c, &start);

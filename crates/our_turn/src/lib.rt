@@ -26,10 +26,10 @@ const SIZES_MAX: usize = 10240;
 fn in_mode(framed: bool, form: u8) -> bool
     ensures { λ r. ⌜ r ≡ inMode framed (formIs form) ⌝ }
 {
-    if form == record_text::MESSAGE {
+    if form == record_text::FORM_MESSAGE {
         return framed;
     }
-    if form == record_text::FILE {
+    if form == record_text::FORM_FILE {
         return framed;
     }
     !framed

@@ -8,10 +8,10 @@ use lib.ListN.{length, take, drop, drop-of-length-le}
 use lib.Seq.{drop-drop}
 use borrow.Author.Tests.{le-leb, lt-leb, leb-true, leb-false}
 use Rattle.grammar.specs.Bytes.{Bytes, SP}
-use Rattle.span.specs.Places.{part, upto}
+use Rattle.span.specs.Places.{part, upto, Lies}
 use Rattle.span.proofs.Laws.{found-within}
 use Rattle.pages.specs.Fields.{QUOTE, word, past, quoted, pastQuote}
-use Rattle.page_cut.specs.Pieces.{Lies, behindOf, pieceTo, wordAt, quotedAt}
+use Rattle.page_cut.specs.Pieces.{behindOf, pieceTo, wordAt, quotedAt}
 use Rattle.page_cut.specs.declared.Piece.{Piece}
 
 -- ---------------------------------------------------------------- behind a byte
@@ -41,7 +41,7 @@ behind-lies l at h = go (leb (length l) at) refl
 -- ---------------------------------------------------------------- a piece up to a byte
 
 -- where it lies: from its start on, and its next place in the line
-pub record Cut (l : Bytes) (start : ℕ) (p : Piece) : Type 0 where
+pub record PieceLies (l : Bytes) (start : ℕ) (p : Piece) : Type 0 where
   pub at : p .span .start ≡ start
   pub least : start ≤ p .span .end
   pub ends : p .span .end ≤ p .next
@@ -49,7 +49,7 @@ pub record Cut (l : Bytes) (start : ℕ) (p : Piece) : Type 0 where
   pub lies : Lies l (p .span)
 
 module _ (c : ℕ) (l : Bytes) (start : ℕ) (h : start ≤ length l) where
-  piece-cut : Cut l start (pieceTo c l start)
+  piece-cut : PieceLies l start (pieceTo c l start)
   unfolding pieceTo
   piece-cut =
       let w = found-within l start c h in
@@ -70,8 +70,8 @@ piece-drop c l start =
 -- ---------------------------------------------------------------- a word, as a function found it
 
 module _ (l : Bytes) (at : ℕ) (p : Piece) (e : p ≡ wordAt l at) where
-  pub word-cut : at ≤ length l → Cut l at p
-  word-cut h = subst (Cut l at) (sym e) (piece-cut SP l at h)
+  pub word-cut : at ≤ length l → PieceLies l at p
+  word-cut h = subst (PieceLies l at) (sym e) (piece-cut SP l at h)
 
   pub word-part : part l (p .span) ≡ word (drop at l)
   word-part = ap (λ (q : Piece). part l (q .span)) e ∙ piece-part SP l at
@@ -85,8 +85,8 @@ drop-one : (l : Bytes) (at : ℕ) → drop (behindOf l at) l ≡ drop 1 (drop at
 drop-one l at = behind-drop l at ∙ ap (λ (k : ℕ). drop k l) (let z : suc at ≡ at + 1 = omega arith in z) ∙ sym (drop-drop 1 at l)
 
 module _ (l : Bytes) (at : ℕ) (p : Piece) (e : p ≡ quotedAt l at) where
-  pub quoted-cut : at ≤ length l → Cut l (behindOf l at) p
-  quoted-cut h = subst (Cut l (behindOf l at)) (sym e) (piece-cut QUOTE l (behindOf l at) ((behind-lies l at h) .1))
+  pub quoted-cut : at ≤ length l → PieceLies l (behindOf l at) p
+  quoted-cut h = subst (PieceLies l (behindOf l at)) (sym e) (piece-cut QUOTE l (behindOf l at) ((behind-lies l at h) .1))
 
   pub quoted-part : part l (p .span) ≡ quoted (drop at l)
   quoted-part = ap (λ (q : Piece). part l (q .span)) e ∙ piece-part QUOTE l (behindOf l at) ∙ ap (λ (t : Bytes). take (upto QUOTE t) t) (drop-one l at)

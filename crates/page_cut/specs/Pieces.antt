@@ -1,16 +1,12 @@
 -- Pieces of a line by their places.
 use mathlib.Core.Bool.{cond}
-use Prim.Native.Nat.{ℕ, _+_, _≤_}
+use Prim.Native.Nat.{ℕ, _+_}
 use lib.Dec.{leb}
 use lib.ListN.{length, drop}
 use Rattle.grammar.specs.Bytes.{Bytes, SP}
 use Rattle.span.specs.Places.{upto}
-use Rattle.span.specs.declared.Span.{Span}
 use Rattle.pages.specs.Fields.{QUOTE}
 use Rattle.page_cut.specs.declared.Piece.{Piece}
-
-abbrev pub Lies : Bytes → Span → Type 0
-Lies l s = (s .start ≤ s .end) × (s .end ≤ length l)
 
 -- The place behind the byte at a place; the line's end has none behind it.
 abbrev pub behindOf : Bytes → ℕ → ℕ

@@ -8,10 +8,10 @@ use span::Span;
 use span::find_from;
 ghost use mathlib.Core.Path.{_≡_};
 ghost use Rattle.grammar.specs.Fields.{isCall, isAt, isBid};
-ghost use Rattle.span.specs.Places.{part};
+ghost use Rattle.span.specs.Places.{part, Lies};
 ghost use Rattle.pages.specs.Fields.{readLong};
 ghost use Rattle.long_number.specs.Meaning.{longIs};
-ghost use Rattle.page_cut.specs.Pieces.{Lies, behindOf, wordAt, quotedAt};
+ghost use Rattle.page_cut.specs.Pieces.{behindOf, wordAt, quotedAt};
 
 // A piece, and the place behind the byte that ends it.
 pub struct Piece {

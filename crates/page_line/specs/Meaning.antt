@@ -2,7 +2,7 @@
 use mathlib.Core.Path.{_≡_}
 use Rattle.grammar.specs.Bytes.{Bytes}
 use Rattle.pages.specs.Pages as pages
-use Rattle.pages.specs.Pages.{dataPlace}
+use Rattle.pages.specs.Pages.{dataAfterFlag}
 use Rattle.page_member.specs.Meaning.{memberIn, FieldsLie}
 use Rattle.page_line.specs.declared.Page.{Page}
 
@@ -14,7 +14,7 @@ pageSaid l (Page.Dropped n) = pages.dropped n
 
 abbrev pub PageLies : Bytes → Page → Type 0
 PageLies l (Page.Version n) = Unit {0}
-PageLies l (Page.Member m) = FieldsLie l dataPlace m
+PageLies l (Page.Member m) = FieldsLie l dataAfterFlag m
 PageLies l Page.Skipped = Unit {0}
 PageLies l (Page.Dropped n) = Unit {0}
 

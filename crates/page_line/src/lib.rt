@@ -12,7 +12,7 @@ ghost use mathlib.Core.Path.{_≡_};
 ghost use mathlib.Core.Bool.{true};
 ghost use Prim.Native.Nat.{_+_, _≤_};
 ghost use lib.ListN.{length, drop, getD};
-ghost use Rattle.pages.specs.Pages.{isHex, leads, hasFlag, flagLength, versionOf, memberBy, byLetter, readPage, flagPlace, dataPlace};
+ghost use Rattle.pages.specs.Pages.{isHex, leads, hasFlag, flagLength, versionOf, memberBy, byLetter, readPage, flagPlace, dataAfterFlag};
 ghost use Rattle.pages.specs.Fields.{memberOf};
 ghost use Rattle.page_line.specs.Meaning.{PageIs};
 
@@ -86,8 +86,8 @@ fn is_flag(line: &[u8], end: usize) -> bool
 
 // The data of V: two decimal digits.
 fn read_version(line: &[u8]) -> Page
-    requires { ⌜ dataPlace ≤ length (now line) ⌝ }
-    ensures { λ r. ⌜ PageIs (now (line .entry)) r (versionOf (drop dataPlace (now (line .entry)))) ⌝ }
+    requires { ⌜ dataAfterFlag ≤ length (now line) ⌝ }
+    ensures { λ r. ⌜ PageIs (now (line .entry)) r (versionOf (drop dataAfterFlag (now (line .entry)))) ⌝ }
 {
     if line.len() != VERSION_END {
         return Page::Dropped(BAD_VERSION);
@@ -100,8 +100,8 @@ fn read_version(line: &[u8]) -> Page
 
 // The data of M.
 fn member_page(line: &[u8]) -> Page
-    requires { ⌜ dataPlace ≤ length (now line) ⌝ }
-    ensures { λ r. ⌜ PageIs (now (line .entry)) r (memberBy (memberOf (drop dataPlace (now (line .entry))))) ⌝ }
+    requires { ⌜ dataAfterFlag ≤ length (now line) ⌝ }
+    ensures { λ r. ⌜ PageIs (now (line .entry)) r (memberBy (memberOf (drop dataAfterFlag (now (line .entry))))) ⌝ }
 {
     match read_member(line, DATA_PLACE) {
         ReadMember::Breaks(why) => Page::Dropped(why),
@@ -111,8 +111,8 @@ fn member_page(line: &[u8]) -> Page
 
 // A record with a flag of one byte.
 fn by_letter(line: &[u8]) -> Page
-    requires { ⌜ dataPlace ≤ length (now line) ⌝ }
-    ensures { λ r. ⌜ PageIs (now (line .entry)) r (byLetter (getD (now (line .entry)) flagPlace 0) (drop dataPlace (now (line .entry)))) ⌝ }
+    requires { ⌜ dataAfterFlag ≤ length (now line) ⌝ }
+    ensures { λ r. ⌜ PageIs (now (line .entry)) r (byLetter (getD (now (line .entry)) flagPlace 0) (drop dataAfterFlag (now (line .entry)))) ⌝ }
 {
     let flag = line[FLAG_PLACE];
     if flag == b'V' {

@@ -7,7 +7,7 @@ use Rattle.grammar.specs.Bytes.{Bytes}
 use Rattle.span.specs.declared.Span.{Span}
 use Rattle.pages.specs.Fields as pages
 use Rattle.pages.specs.Fields.{memberOf, memberWith, memberAfter, memberFrom, whenOf, whenceOf}
-use Rattle.page_words.specs.Meaning.{Within, whoIn, whoSaid, WhoLies, WhoIs, whenIn, whenSaid, WhenLies, WhenIs}
+use Rattle.page_words.specs.Meaning.{LiesBetween, whoIn, whoSaid, WhoLies, WhoIs, whenIn, whenSaid, WhenLies, WhenIs}
 use Rattle.page_words.specs.declared.Who.{Who}
 use Rattle.page_words.specs.declared.ReadWho.{ReadWho}
 use Rattle.page_words.specs.declared.When.{When}
@@ -19,7 +19,7 @@ use Rattle.page_member.specs.Meaning.{nineOf, memberIn, FieldsLie, Membe
 use Rattle.page_member.specs.declared.Member.{Member}
 use Rattle.page_member.specs.declared.ReadMember.{ReadMember}
 
-wider : (a b c d : ℕ) (s : Span) → b ≤ a → Within a s c → c ≤ d → Within b s d
+wider : (a b c d : ℕ) (s : Span) → b ≤ a → LiesBetween a s c → c ≤ d → LiesBetween b s d
 wider a b c d s h w k = let x = w .0 in let y = w .2 in (omega (arith, h, x), w .1, omega (arith, y, k))
 
 module _ (l : Bytes) (at : ℕ) (r : ReadWho) (e : WhoIs l at r) where

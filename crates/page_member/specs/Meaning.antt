@@ -5,7 +5,7 @@ use lib.ListN.{length, drop}
 use Rattle.grammar.specs.Bytes.{Bytes}
 use Rattle.span.specs.Places.{part}
 use Rattle.pages.specs.Fields as pages
-use Rattle.page_words.specs.Meaning.{Within}
+use Rattle.page_words.specs.Meaning.{LiesBetween}
 use Rattle.page_words.specs.declared.Who.{Who}
 use Rattle.page_words.specs.declared.When.{When}
 use Rattle.page_whence.specs.declared.Whence.{Whence}
@@ -47,13 +47,13 @@ memberSaid l (ReadMember.Breaks n) = pages.breaks n
 
 abbrev pub FieldsLie : Bytes → ℕ → Member → Type 0
 FieldsLie l at m =
-    Within at (m .call) (m .home .start)
-    × Within at (m .home) (m .bid .start)
-    × Within at (m .bid) (m .origin .start)
-    × Within at (m .origin) (m .name .start)
-    × Within at (m .name) (m .zip .start)
-    × Within at (m .zip) (m .town .start)
-    × Within at (m .town) (length l)
+    LiesBetween at (m .call) (m .home .start)
+    × LiesBetween at (m .home) (m .bid .start)
+    × LiesBetween at (m .bid) (m .origin .start)
+    × LiesBetween at (m .origin) (m .name .start)
+    × LiesBetween at (m .name) (m .zip .start)
+    × LiesBetween at (m .zip) (m .town .start)
+    × LiesBetween at (m .town) (length l)
 
 abbrev pub MemberLies : Bytes → ℕ → ReadMember → Type 0
 MemberLies l at (ReadMember.Breaks n) = Unit {0}

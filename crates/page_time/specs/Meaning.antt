@@ -27,6 +27,6 @@ abbrev pub secondsIs : Seconds → Option ℤ
 secondsIs (Seconds.At t) = some t
 secondsIs Seconds.BadDate = none
 
-abbrev pub dateSaid : Dated → Option dates.Date
-dateSaid (Dated.On d) = some (dateIs d)
-dateSaid Dated.OutOfRange = none
+abbrev pub datedSaid : Dated → Option dates.Date
+datedSaid (Dated.On d) = some (dateIs d)
+datedSaid Dated.OutOfRange = none

@@ -7,7 +7,7 @@ use day_number::number_of;
 ghost use mathlib.Core.Path.{_≡_};
 ghost use Prim.Native.Nat.{_<_};
 ghost use Rattle.pages.specs.Stamps.{secondsOf, toSeconds, toDate};
-ghost use Rattle.page_time.specs.Meaning.{DayIs, secondsIs, dateSaid};
+ghost use Rattle.page_time.specs.Meaning.{DayIs, secondsIs, datedSaid};
 ghost use Rattle.dates.specs.Dates.{allDays};
 
 const DAY_SECONDS: u64 = 86400;
@@ -68,7 +68,7 @@ pub fn to_seconds(text: &[u8]) -> Seconds
 
 // Back: the date of a time.
 pub fn to_date(t: i64) -> Dated
-    ensures { λ r. ⌜ dateSaid r ≡ toDate t ⌝ }
+    ensures { λ r. ⌜ datedSaid r ≡ toDate t ⌝ }
 {
     match day_of(t) {
         Day::OutOfRange => Dated::OutOfRange,

@@ -16,7 +16,7 @@ use Rattle.pages.specs.Fields as pages
 use Rattle.pages.specs.Fields.{QUOTE, word, quoted, pastQuote, begins, isName, whenceOf, badName, badZip, badTown, twoQuotes}
 use Rattle.page_cut.specs.Pieces.{behindOf, pieceTo, wordAt, quotedAt}
 use Rattle.page_cut.specs.declared.Piece.{Piece}
-use Rattle.page_cut.proofs.Laws.{Cut, word-cut, word-part, word-past, quoted-cut, quoted-part, quoted-past, quoted-end, behind-byte}
+use Rattle.page_cut.proofs.Laws.{PieceLies, word-cut, word-part, word-past, quoted-cut, quoted-part, quoted-past, quoted-end, behind-byte}
 use Rattle.route_scan.proofs.Laws.{past-byte}
 use Rattle.page_whence.specs.Meaning.{whenceIn, ZipLies, ZipIs, WhenceLies, WhenceIs}
 use Rattle.page_whence.specs.declared.ReadWhence.{ReadWhence}
@@ -46,7 +46,7 @@ module _ (l : Bytes) (i b c : ℕ) (e : b ≡ getD l i 0) where
 -- ---------------------------------------------------------------- zip and town
 
 module _ (l : Bytes) (at : ℕ) (h : at ≤ length l) (name : Span) (p : Piece) (e : p ≡ wordAt l at) where
-  zip-cut : Cut l at p
+  zip-cut : PieceLies l at p
   zip-cut = word-cut l at p e h
 
   zip-end : p .span .end ≡ at + upto SP (drop at l)
@@ -71,7 +71,7 @@ module _ (l : Bytes) (at : ℕ) (h : at ≤ length l) (name : Span) (p : Piece) 
     no-town n = rw (zip-there, ← word-past l at p e, no-begin l (p .next) b QUOTE f n)
 
     module _ (m : b ≡ QUOTE) (q : Piece) (g : q ≡ quotedAt l (p .next)) where
-      town-cut : Cut l (behindOf l (p .next)) q
+      town-cut : PieceLies l (behindOf l (p .next)) q
       town-cut = quoted-cut l (p .next) q g (zip-cut .most)
 
       pub town-within : q .span .end ≤ length l
@@ -127,7 +127,7 @@ module _ (l : Bytes) (at : ℕ) (h : at ≤ length l) (b : ℕ) (e : b ≡ getD 
     unfolding whenceOf
     name-says n r o = (o .0 ∙ same, later r (o .1))
       where
-        cut : Cut l (behindOf l at) p
+        cut : PieceLies l (behindOf l at) p
         cut = quoted-cut l at p f h
 
         start : behindOf l at ≡ at + 1

@@ -7,16 +7,16 @@ use native.Mathlib.Omega.{arith}
 use lib.ListN.{length, drop}
 use Rattle.grammar.specs.Bytes.{Bytes}
 use Rattle.grammar.specs.Fields.{isCall, isAt, isBid}
-use Rattle.grammar.proofs.Basics.{told, told-not}
-use Rattle.span.specs.Places.{part}
+use Rattle.grammar.proofs.Basics.{not-told, told-not}
+use Rattle.span.specs.Places.{part, Lies}
 use Rattle.pages.specs.Fields as pages
 use Rattle.pages.specs.Fields.{word, past, whoOf, whenOf, readLong, badCall, badHome, badBid, badStamp, badOrigin, badHops}
 use Rattle.long_number.specs.Meaning.{longIs}
 use Rattle.long_number.specs.declared.Long.{Long}
-use Rattle.page_cut.specs.Pieces.{Lies, wordAt}
+use Rattle.page_cut.specs.Pieces.{wordAt}
 use Rattle.page_cut.specs.declared.Piece.{Piece}
-use Rattle.page_cut.proofs.Laws.{Cut, word-cut, word-part, word-past}
-use Rattle.page_words.specs.Meaning.{whoIn, WhoLies, whenIn, WhenLies, WhenIs, OriginIs}
+use Rattle.page_cut.proofs.Laws.{PieceLies, word-cut, word-part, word-past}
+use Rattle.page_words.specs.Meaning.{whoIn, WhoLies, whenIn, WhenLies, WhenIs, StampIs}
 use Rattle.page_words.specs.declared.ReadWho.{ReadWho}
 use Rattle.page_words.specs.declared.ReadWhen.{ReadWhen}
 
@@ -52,13 +52,13 @@ module _ (l : Bytes) (at : ℕ) (h : at ≤ length l) (p : Piece) (e : p ≡ wor
 
         pub home-breaks : not b ≡ true → pages.breaks badHome ≡ whoOf (drop at l)
         unfolding whoOf
-        home-breaks m = rw (told call-is k, told-not (j ∙ ap isAt home-part) m)
+        home-breaks m = rw (not-told call-is k, told-not (j ∙ ap isAt home-part) m)
 
         module _ (m : not b ≡ false) (s : Piece) (g : s ≡ wordAt l (q .next)) where
-          second-cut : Cut l (p .next) q
+          second-cut : PieceLies l (p .next) q
           second-cut = word-cut l (p .next) q f next-most
 
-          third-cut : Cut l (q .next) s
+          third-cut : PieceLies l (q .next) s
           third-cut = word-cut l (q .next) s g (second-cut .most)
 
           pub third-lies : Lies l (s .span)
@@ -73,12 +73,12 @@ module _ (l : Bytes) (at : ℕ) (h : at ≤ length l) (p : Piece) (e : p ≡ wor
 
             pub bid-breaks : not d ≡ true → pages.breaks badBid ≡ whoOf (drop at l)
             unfolding whoOf
-            bid-breaks n = rw (told call-is k, told (j ∙ ap isAt home-part) m, told-not (o ∙ ap isBid bid-part) n)
+            bid-breaks n = rw (not-told call-is k, not-told (j ∙ ap isAt home-part) m, told-not (o ∙ ap isBid bid-part) n)
 
             pub who-says : not d ≡ false → pages.says (whoIn l (record { call = p .span; home = q .span; bid = s .span; next = s .next })) ≡ whoOf (drop at l)
             unfolding whoOf
             who-says n =
-                rw (told call-is k, told (j ∙ ap isAt home-part) m, told (o ∙ ap isBid bid-part) n, word-part l at p e, home-part, bid-part, bid-past)
+                rw (not-told call-is k, not-told (j ∙ ap isAt home-part) m, not-told (o ∙ ap isBid bid-part) n, word-part l at p e, home-part, bid-part, bid-past)
 
             pub who-lies : WhoLies l at (ReadWho.Says (record { call = p .span; home = q .span; bid = s .span; next = s .next }))
             who-lies =
@@ -112,14 +112,14 @@ module _ (l : Bytes) (at : ℕ) (h : at ≤ length l) (p : Piece) (e : p ≡ wor
         hops-read = j ∙ ap readLong (word-part l (p .next) q f ∙ ap word (word-past l at p e))
 
         pub hops-breaks : z ≡ Long.Bad → pages.breaks badHops ≡ pages.stamped (some n) (drop at l)
-        hops-breaks m = rw (told origin-is k, sym hops-read ∙ ap longIs m)
+        hops-breaks m = rw (not-told origin-is k, sym hops-read ∙ ap longIs m)
 
         module _ (v : ℕ) (m : z ≡ Long.Value v) where
           hops-past : drop (q .next) l ≡ past (past (drop at l))
           hops-past = word-past l (p .next) q f ∙ ap past (word-past l at p e)
 
           pub when-says : pages.says (whenIn l (record { stamp = n; origin = p .span; hops = v; next = q .next })) ≡ pages.stamped (some n) (drop at l)
-          when-says = rw (told origin-is k, sym hops-read ∙ ap longIs m, word-part l at p e, hops-past)
+          when-says = rw (not-told origin-is k, sym hops-read ∙ ap longIs m, word-part l at p e, hops-past)
 
           pub when-lies : WhenLies l at (ReadWhen.Says (record { stamp = n; origin = p .span; hops = v; next = q .next }))
           when-lies =
@@ -142,7 +142,7 @@ module _ (l : Bytes) (at : ℕ) (h : at ≤ length l) (p : Piece) (e : p ≡ wor
     unfolding whenOf
     stamp-breaks m = rw (sym stamp-read ∙ ap longIs m)
 
-    pub stamp-says : (v : ℕ) (r : ReadWhen) → z ≡ Long.Value v → OriginIs l (p .next) v r → WhenIs l at r
+    pub stamp-says : (v : ℕ) (r : ReadWhen) → z ≡ Long.Value v → StampIs l (p .next) v r → WhenIs l at r
     unfolding whenOf
     stamp-says v r m o =
         (o .0 ∙ ap (pages.stamped (some v)) (word-past l at p e) ∙ ap (λ (t : Option ℕ). pages.stamped t (past (drop at l))) (sym (sym stamp-read ∙ ap longIs m)), later r (o .1))

@@ -13,8 +13,8 @@ use Rattle.page_words.specs.declared.When.{When}
 use Rattle.page_words.specs.declared.ReadWhen.{ReadWhen}
 
 -- A field lies between two places.
-abbrev pub Within : ℕ → Span → ℕ → Type 0
-Within from s to = (from ≤ s .start) × (s .start ≤ s .end) × (s .end ≤ to)
+abbrev pub LiesBetween : ℕ → Span → ℕ → Type 0
+LiesBetween from s to = (from ≤ s .start) × (s .start ≤ s .end) × (s .end ≤ to)
 
 -- ---------------------------------------------------------------- call, home mailbox and BID
 
@@ -27,7 +27,7 @@ whoSaid l (ReadWho.Breaks n) = pages.breaks n
 
 abbrev pub WhoLies : Bytes → ℕ → ReadWho → Type 0
 WhoLies l at (ReadWho.Breaks n) = Unit {0}
-WhoLies l at (ReadWho.Says w) = Within at (w .call) (w .home .start) × Within at (w .home) (w .bid .start) × Within at (w .bid) (w .next) × (w .next ≤ length l)
+WhoLies l at (ReadWho.Says w) = LiesBetween at (w .call) (w .home .start) × LiesBetween at (w .home) (w .bid .start) × LiesBetween at (w .bid) (w .next) × (w .next ≤ length l)
 
 abbrev pub WhoIs : Bytes → ℕ → ReadWho → Type 0
 WhoIs l at r = (whoSaid l r ≡ pages.whoOf (drop at l)) × WhoLies l at r
@@ -43,10 +43,10 @@ whenSaid l (ReadWhen.Breaks n) = pages.breaks n
 
 abbrev pub WhenLies : Bytes → ℕ → ReadWhen → Type 0
 WhenLies l at (ReadWhen.Breaks n) = Unit {0}
-WhenLies l at (ReadWhen.Says w) = Within at (w .origin) (w .next) × (w .next ≤ length l)
+WhenLies l at (ReadWhen.Says w) = LiesBetween at (w .origin) (w .next) × (w .next ≤ length l)
 
-abbrev pub OriginIs : Bytes → ℕ → ℕ → ReadWhen → Type 0
-OriginIs l at n r = (whenSaid l r ≡ pages.stamped (some n) (drop at l)) × WhenLies l at r
+abbrev pub StampIs : Bytes → ℕ → ℕ → ReadWhen → Type 0
+StampIs l at n r = (whenSaid l r ≡ pages.stamped (some n) (drop at l)) × WhenLies l at r
 
 abbrev pub WhenIs : Bytes → ℕ → ReadWhen → Type 0
 WhenIs l at r = (whenSaid l r ≡ pages.whenOf (drop at l)) × WhenLies l at r

@@ -9,7 +9,7 @@ use span::Span;
 ghost use mathlib.Core.Path.{_≡_};
 ghost use Prim.Native.Nat.{_≤_};
 ghost use lib.ListN.{length};
-ghost use Rattle.page_words.specs.Meaning.{WhoIs, OriginIs, WhenIs};
+ghost use Rattle.page_words.specs.Meaning.{WhoIs, StampIs, WhenIs};
 
 // Why a line is dropped: the numbers of include/fringemole_pages.h.
 const BAD_CALL: u8 = 3;
@@ -83,7 +83,7 @@ pub fn read_who(line: &[u8], at: usize) -> ReadWho
 // Origin and hops at a place, behind a time stamp.
 fn read_origin(line: &[u8], at: usize, stamp: u64) -> ReadWhen
     requires { ⌜ at ≤ length (now line) ⌝ }
-    ensures { λ r. ⌜ OriginIs (now (line .entry)) at stamp r ⌝ }
+    ensures { λ r. ⌜ StampIs (now (line .entry)) at stamp r ⌝ }
 {
     let first = word_at(line, at);
     let origin = first.span;

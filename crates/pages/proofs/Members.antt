@@ -17,7 +17,7 @@ use Rattle.span.specs.Places.{upto}
 use Rattle.text_line.specs.TextLines.{bodyLines}
 use Rattle.text_line.proofs.Laws.{upto-mid, take-front, drop-front}
 use Rattle.pages.specs.Fields.{Read, says, breaks, Member, Who, When, Whence, word, past, QUOTE, quoted, pastQuote, isLong, readLong, whoOf, hopped, stamped, whenOf, isName, isTown, zipped, whenceOf, memberFrom, memberAfter, memberWith, memberOf, badVersion, longDigits, twoQuotes}
-use Rattle.pages.specs.Pages.{Page, version, member, skipped, dropped, isHex, leads, flagPlace, flagLength, hasFlag, versionBy, versionOf, memberBy, flagV, flagM, dataPlace, byLetter, readPage, Line, lineOf, pagesOf, anyNewer, isRecord, isDropped, kept, Mail, mailOf, handed, surveyOf, versionDigits}
+use Rattle.pages.specs.Pages.{Page, version, member, skipped, dropped, isHex, leads, flagPlace, flagLength, hasFlag, versionBy, versionOf, memberBy, flagV, flagM, dataAfterFlag, byLetter, readPage, ReadLine, lineOf, pagesOf, anyNewer, isRecord, isDroppedLine, linesThat, Mail, mailOf, handed, surveyOf, versionDigits}
 
 -- ---------------------------------------------------------------- what is given obeys its rules
 
@@ -27,7 +27,7 @@ pub record Long (n : ℕ) : Type 0 where
   pub few : isLong digits ≡ true
   pub value : readFrom 0 digits ≡ n
 
-pub record Good (m : Member) : Type 0 where
+pub record MemberFair (m : Member) : Type 0 where
   pub call : isCall (m .call) ≡ true
   pub home : isAt (m .home) ≡ true
   pub bid : isBid (m .bid) ≡ true
@@ -96,7 +96,7 @@ whence-good r = by-test WhenceGood (isName r) (λ e. zip (drop 1 (pastQuote r)))
 
 abbrev MemberGood : Read Member → Type 0
 MemberGood (breaks n) = Unit {0}
-MemberGood (says m) = Good m
+MemberGood (says m) = MemberFair m
 
 member-good : (r : Bytes) → MemberGood (memberOf r)
 unfolding memberOf
@@ -118,7 +118,7 @@ member-good r = who (whoOf r) (who-good r)
 -- what a line is, where it is a member: one that obeys its rules
 abbrev pub PageGood : Page → Type 0
 PageGood (version n) = Unit {0}
-PageGood (member m) = Good m
+PageGood (member m) = MemberFair m
 PageGood skipped = Unit {0}
 PageGood (dropped n) = Unit {0}
 
@@ -127,7 +127,7 @@ unfolding readPage byLetter versionOf
 page-good l =
     by-test PageGood (leads l && hasFlag l)
     (λ e. by-test PageGood (eqb (flagLength l) 1)
-    (λ f. by-test PageGood (eqb (getD l flagPlace 0) flagV) (λ g. a-version (drop dataPlace l)) (λ g. by-test PageGood (eqb (getD l flagPlace 0) flagM) (λ h. a-member (memberOf (drop dataPlace l)) (member-good (drop dataPlace l))) (λ h. tt)))
+    (λ f. by-test PageGood (eqb (getD l flagPlace 0) flagV) (λ g. a-version (drop dataAfterFlag l)) (λ g. by-test PageGood (eqb (getD l flagPlace 0) flagM) (λ h. a-member (memberOf (drop dataAfterFlag l)) (member-good (drop dataAfterFlag l))) (λ h. tt)))
     (λ f. tt))
     (λ e. tt)
   where
@@ -143,7 +143,7 @@ page-good l =
     a-member (says m) g = g
 
 -- every one of them
-abbrev pub AllGood : List Line → Type 0
+abbrev pub AllGood : List ReadLine → Type 0
 AllGood [] = Unit {0}
 AllGood (l ∷ ls) = ((isRecord (l .page) ≡ true) × PageGood (l .page)) × AllGood ls
 
@@ -152,16 +152,16 @@ pub members-only : (x : Bytes) → AllGood ((mailOf x) .records)
 unfolding mailOf pagesOf
 members-only x = go (anyNewer (map lineOf (bodyLines x))) (all (bodyLines x))
   where
-    all : (ls : List Bytes) → AllGood (kept isRecord (map lineOf ls))
+    all : (ls : List Bytes) → AllGood (linesThat isRecord (map lineOf ls))
     all [] = tt
     all (l ∷ ls) = one (isRecord (readPage l)) refl (all ls)
       where
-        one : (b : Bool) → isRecord (readPage l) ≡ b → AllGood (kept isRecord (map lineOf ls)) → AllGood (cond b (lineOf l ∷ kept isRecord (map lineOf ls)) (kept isRecord (map lineOf ls)))
+        one : (b : Bool) → isRecord (readPage l) ≡ b → AllGood (linesThat isRecord (map lineOf ls)) → AllGood (cond b (lineOf l ∷ linesThat isRecord (map lineOf ls)) (linesThat isRecord (map lineOf ls)))
         one true e ih = ((e, page-good l), ih)
         one false e ih = ih
 
-    go : (b : Bool) → AllGood (kept isRecord (map lineOf (bodyLines x)))
-        → AllGood ((cond {A = Mail} b (record { unread = true; records = []; dropped = 0 }) (record { unread = false; records = kept isRecord (map lineOf (bodyLines x)); dropped = length (kept isDropped (map lineOf (bodyLines x))) })) .records)
+    go : (b : Bool) → AllGood (linesThat isRecord (map lineOf (bodyLines x)))
+        → AllGood ((cond {A = Mail} b (record { unread = true; records = []; dropped = 0 }) (record { unread = false; records = linesThat isRecord (map lineOf (bodyLines x)); dropped = length (linesThat isDroppedLine (map lineOf (bodyLines x))) })) .records)
     go true g = tt
     go false g = g
 
@@ -181,21 +181,21 @@ isSkipped (member m) = false
 isSkipped skipped = true
 isSkipped (dropped n) = false
 
-three-kinds : (ls : List Line) → length ls ≡ length (kept isRecord ls) + length (kept isSkipped ls) + length (kept isDropped ls)
+three-kinds : (ls : List ReadLine) → length ls ≡ length (linesThat isRecord ls) + length (linesThat isSkipped ls) + length (linesThat isDroppedLine ls)
 three-kinds [] = omega arith
 three-kinds (l ∷ ls) = go (l .page) (three-kinds ls)
   where
-    go : (p : Page) → length ls ≡ length (kept isRecord ls) + length (kept isSkipped ls) + length (kept isDropped ls)
-        → suc (length ls) ≡ length (cond (isRecord p) (l ∷ kept isRecord ls) (kept isRecord ls)) + length (cond (isSkipped p) (l ∷ kept isSkipped ls) (kept isSkipped ls)) + length (cond (isDropped p) (l ∷ kept isDropped ls) (kept isDropped ls))
+    go : (p : Page) → length ls ≡ length (linesThat isRecord ls) + length (linesThat isSkipped ls) + length (linesThat isDroppedLine ls)
+        → suc (length ls) ≡ length (cond (isRecord p) (l ∷ linesThat isRecord ls) (linesThat isRecord ls)) + length (cond (isSkipped p) (l ∷ linesThat isSkipped ls) (linesThat isSkipped ls)) + length (cond (isDroppedLine p) (l ∷ linesThat isDroppedLine ls) (linesThat isDroppedLine ls))
     go (version n) ih = omega (arith, ih)
     go (member m) ih = omega (arith, ih)
     go skipped ih = omega (arith, ih)
     go (dropped n) ih = omega (arith, ih)
 
 -- in a mail that is read the lines are the records, those that are skipped, and those that are dropped
-pub counted : (x : Bytes) → anyNewer (pagesOf x) ≡ false → length (pagesOf x) ≡ length ((mailOf x) .records) + length (kept isSkipped (pagesOf x)) + (mailOf x) .dropped
+pub lines-counted : (x : Bytes) → anyNewer (pagesOf x) ≡ false → length (pagesOf x) ≡ length ((mailOf x) .records) + length (linesThat isSkipped (pagesOf x)) + (mailOf x) .dropped
 unfolding mailOf
-counted x e = rw e (three-kinds (pagesOf x))
+lines-counted x e = rw e (three-kinds (pagesOf x))
 
 -- ---------------------------------------------------------------- written back
 
@@ -212,18 +212,18 @@ pub record Nine : Type 0 where
   pub town : Bytes
 
 -- a field and the space behind it
-abbrev pub then : Bytes → Bytes → Bytes
-then w r = w ++ SP ∷ r
+abbrev pub thenSpace : Bytes → Bytes → Bytes
+thenSpace w r = w ++ SP ∷ r
 
 abbrev pub inQuotes : Bytes → Bytes → Bytes
 inQuotes w r = QUOTE ∷ (w ++ QUOTE ∷ r)
 
 abbrev pub memberText : Nine → Bytes
 memberText n =
-    then (n .call) (then (n .home) (then (n .bid) (then (n .stamp) (then (n .origin) (then (n .hops) (inQuotes (n .name) (SP ∷ then (n .zip) (inQuotes (n .town) []))))))))
+    thenSpace (n .call) (thenSpace (n .home) (thenSpace (n .bid) (thenSpace (n .stamp) (thenSpace (n .origin) (thenSpace (n .hops) (inQuotes (n .name) (SP ∷ thenSpace (n .zip) (inQuotes (n .town) []))))))))
 
-abbrev pub memberSaid : Nine → Member
-memberSaid n =
+abbrev pub nineSaid : Nine → Member
+nineSaid n =
     record {
       call = n .call;
       home = n .home;
@@ -236,7 +236,7 @@ memberSaid n =
       town = n .town;
     }
 
-pub record Fair (n : Nine) : Type 0 where
+pub record NineFair (n : Nine) : Type 0 where
   pub call : isCall (n .call) ≡ true
   pub home : isAt (n .home) ≡ true
   pub bid : isBid (n .bid) ≡ true
@@ -247,11 +247,11 @@ pub record Fair (n : Nine) : Type 0 where
   pub zip : (1 ≤ length (n .zip)) × Lacks SP (n .zip)
   pub town : Lacks QUOTE (n .town)
 
-word-front : (w r : Bytes) → Lacks SP w → word (then w r) ≡ w
-word-front w r h = ap (λ (k : ℕ). take k (then w r)) (upto-mid SP w r h) ∙ take-front w (SP ∷ r)
+word-front : (w r : Bytes) → Lacks SP w → word (thenSpace w r) ≡ w
+word-front w r h = ap (λ (k : ℕ). take k (thenSpace w r)) (upto-mid SP w r h) ∙ take-front w (SP ∷ r)
 
-past-front : (w r : Bytes) → Lacks SP w → past (then w r) ≡ r
-past-front w r h = ap (λ (k : ℕ). drop (suc k) (then w r)) (upto-mid SP w r h) ∙ drop-front SP w r
+past-front : (w r : Bytes) → Lacks SP w → past (thenSpace w r) ≡ r
+past-front w r h = ap (λ (k : ℕ). drop (suc k) (thenSpace w r)) (upto-mid SP w r h) ∙ drop-front SP w r
 
 quoted-front : (w r : Bytes) → Lacks QUOTE w → quoted (inQuotes w r) ≡ w
 quoted-front w r h = ap (λ (k : ℕ). take k (w ++ QUOTE ∷ r)) (upto-mid QUOTE w r h) ∙ take-front w (QUOTE ∷ r)
@@ -274,11 +274,11 @@ long-lacks : (w : Bytes) → isLong w ≡ true → Lacks SP w
 unfolding isLong
 long-lacks w e = all-lacks digit SP w refl ((field-is digit longDigits w e) .class)
 
-who-back : (a b c r : Bytes) → isCall a ≡ true → isAt b ≡ true → isBid c ≡ true → whoOf (then a (then b (then c r))) ≡ says (record { call = a; home = b; bid = c; rest = r })
+who-back : (a b c r : Bytes) → isCall a ≡ true → isAt b ≡ true → isBid c ≡ true → whoOf (thenSpace a (thenSpace b (thenSpace c r))) ≡ says (record { call = a; home = b; bid = c; rest = r })
 unfolding whoOf
 who-back a b c r ha hb hc =
-    rw (past-front a (then b (then c r)) (call-lacks a ha), word-front a (then b (then c r)) (call-lacks a ha))
-    (rw (past-front b (then c r) (at-lacks b hb), word-front b (then c r) (at-lacks b hb))
+    rw (past-front a (thenSpace b (thenSpace c r)) (call-lacks a ha), word-front a (thenSpace b (thenSpace c r)) (call-lacks a ha))
+    (rw (past-front b (thenSpace c r) (at-lacks b hb), word-front b (thenSpace c r) (at-lacks b hb))
     (rw (past-front c r (bid-lacks c hc), word-front c r (bid-lacks c hc), ha, hb, hc)))
 
 long-back : (w : Bytes) → isLong w ≡ true → readLong w ≡ some (readFrom 0 w)
@@ -286,11 +286,11 @@ unfolding readLong
 long-back w e = rw e
 
 when-back : (a b c r : Bytes) → isLong a ≡ true → isAt b ≡ true → isLong c ≡ true
-    → whenOf (then a (then b (then c r))) ≡ says (record { stamp = readFrom 0 a; origin = b; hops = readFrom 0 c; rest = r })
+    → whenOf (thenSpace a (thenSpace b (thenSpace c r))) ≡ says (record { stamp = readFrom 0 a; origin = b; hops = readFrom 0 c; rest = r })
 unfolding whenOf
 when-back a b c r ha hb hc =
-    rw (past-front a (then b (then c r)) (long-lacks a ha), word-front a (then b (then c r)) (long-lacks a ha), long-back a ha)
-    (rw (past-front b (then c r) (at-lacks b hb), word-front b (then c r) (at-lacks b hb), hb)
+    rw (past-front a (thenSpace b (thenSpace c r)) (long-lacks a ha), word-front a (thenSpace b (thenSpace c r)) (long-lacks a ha), long-back a ha)
+    (rw (past-front b (thenSpace c r) (at-lacks b hb), word-front b (thenSpace c r) (at-lacks b hb), hb)
     (rw (past-front c r (long-lacks c hc), word-front c r (long-lacks c hc), long-back c hc)))
 
 town-end : (w : Bytes) → Lacks QUOTE w → isTown (inQuotes w []) ≡ true
@@ -299,23 +299,23 @@ town-end w h =
     eq-eqb (upto QUOTE (w ++ QUOTE ∷ []) + twoQuotes) (length (inQuotes w [])) (let k = upto-mid QUOTE w [] h in omega (arith, k, n))
 
 whence-back : (a b c : Bytes) → Lacks QUOTE a → 1 ≤ length b → Lacks SP b → Lacks QUOTE c
-    → whenceOf (inQuotes a (SP ∷ then b (inQuotes c []))) ≡ says (record { name = a; zip = b; town = c })
+    → whenceOf (inQuotes a (SP ∷ thenSpace b (inQuotes c []))) ≡ says (record { name = a; zip = b; town = c })
 unfolding whenceOf
 whence-back a b c ha lb hb hc =
-    rw (quote-front a (SP ∷ then b (inQuotes c [])) ha, quoted-front a (SP ∷ then b (inQuotes c [])) ha)
+    rw (quote-front a (SP ∷ thenSpace b (inQuotes c [])) ha, quoted-front a (SP ∷ thenSpace b (inQuotes c [])) ha)
     (rw (past-front b (inQuotes c []) hb, word-front b (inQuotes c []) hb, le-leb 1 (length b) lb, town-end c hc)
     (rw (quoted-front c [] hc)))
 
 -- a member line made of good fields reads as those fields
-pub written-back : (n : Nine) → Fair n → memberOf (memberText n) ≡ says (memberSaid n)
+pub written-back : (n : Nine) → NineFair n → memberOf (memberText n) ≡ says (nineSaid n)
 unfolding memberOf
 written-back n f =
-    let last = inQuotes (n .name) (SP ∷ then (n .zip) (inQuotes (n .town) [])) in
-    ap memberWith (who-back (n .call) (n .home) (n .bid) (then (n .stamp) (then (n .origin) (then (n .hops) last))) (f .call) (f .home) (f .bid))
-    ∙ ap (memberAfter (record { call = n .call; home = n .home; bid = n .bid; rest = then (n .stamp) (then (n .origin) (then (n .hops) last)) })) (when-back (n .stamp) (n .origin) (n .hops) last (f .stamp) (f .origin) (f .hops))
-    ∙ ap (memberFrom (record { call = n .call; home = n .home; bid = n .bid; rest = then (n .stamp) (then (n .origin) (then (n .hops) last)) }) (record { stamp = readFrom 0 (n .stamp); origin = n .origin; hops = readFrom 0 (n .hops); rest = last })) (whence-back (n .name) (n .zip) (n .town) (f .name) (f .zip .0) (f .zip .1) (f .town))
+    let last = inQuotes (n .name) (SP ∷ thenSpace (n .zip) (inQuotes (n .town) [])) in
+    ap memberWith (who-back (n .call) (n .home) (n .bid) (thenSpace (n .stamp) (thenSpace (n .origin) (thenSpace (n .hops) last))) (f .call) (f .home) (f .bid))
+    ∙ ap (memberAfter (record { call = n .call; home = n .home; bid = n .bid; rest = thenSpace (n .stamp) (thenSpace (n .origin) (thenSpace (n .hops) last)) })) (when-back (n .stamp) (n .origin) (n .hops) last (f .stamp) (f .origin) (f .hops))
+    ∙ ap (memberFrom (record { call = n .call; home = n .home; bid = n .bid; rest = thenSpace (n .stamp) (thenSpace (n .origin) (thenSpace (n .hops) last)) }) (record { stamp = readFrom 0 (n .stamp); origin = n .origin; hops = readFrom 0 (n .hops); rest = last })) (whence-back (n .name) (n .zip) (n .town) (f .name) (f .zip .0) (f .zip .1) (f .town))
 
 -- and as a line, behind any two hexadecimal digits
-pub line-back : (a b : ℕ) (n : Nine) → Fair n → isHex a ≡ true → isHex b ≡ true → readPage (a ∷ b ∷ SP ∷ flagM ∷ SP ∷ memberText n) ≡ member (memberSaid n)
+pub line-back : (a b : ℕ) (n : Nine) → NineFair n → isHex a ≡ true → isHex b ≡ true → readPage (a ∷ b ∷ SP ∷ flagM ∷ SP ∷ memberText n) ≡ member (nineSaid n)
 unfolding readPage byLetter upto
 line-back a b n f ha hb = rw (ha, hb, lt-ltb (flagPlace + 1) (length (a ∷ b ∷ SP ∷ flagM ∷ SP ∷ memberText n)) (omega arith)) (ap memberBy (written-back n f))

@@ -9,9 +9,9 @@ use lib.ListN.{getD}
 use lib.IntN.{pos, negsuc, _-ℤ_}
 use borrow.Author.Tests.{lt-ltb, le-ltb, le-leb, lt-leb, ltb-true, ltb-false, eqb-true, eqb-false}
 use Rattle.grammar.proofs.Basics.{both, or-second}
-use Rattle.dates.specs.Dates.{Date, isDate, isLeap, monthStarts, startOf, daysIn, dayNumber, dateOf, firstYear, lastYear, cycleYears, yearDays, lastMonth, allDays}
+use Rattle.dates.specs.Dates.{Date, isDate, isLeap, monthStarts, monthStart, daysIn, dayNumber, dateOf, firstYear, lastYear, cycleYears, yearDays, lastMonth, allDays}
 use Rattle.dates.specs.Digits.{dateText}
-use Rattle.dates.proofs.Dates.{below, below-at, Valid, valid, number-back, date-back}
+use Rattle.dates.proofs.Dates.{below, below-at, Valid, date-valid, number-back, date-back}
 use Rattle.dates.proofs.Digits.{date-text-back}
 use Rattle.pages.specs.Stamps.{daySeconds, endSeconds, secondsOf, secondsBy, toSeconds, dayOf, dateBy, toDate, dayBefore, decemberDays}
 
@@ -32,27 +32,27 @@ is-date y m d a b c e f g =
 
 -- each month ends later than it starts
 growTest : Bool → ℕ → Bool
-growTest leap m = leb m 0 || ltb (startOf leap m) (getD (monthStarts leap) m 0)
+growTest leap m = leb m 0 || ltb (monthStart leap m) (getD (monthStarts leap) m 0)
 
 all-grow : (leap : Bool) → below (lastMonth + 1) (growTest leap) ≡ true
 unfolding below growTest
 all-grow true = refl
 all-grow false = refl
 
-grows : (leap : Bool) (m : ℕ) → 1 ≤ m → m ≤ lastMonth → startOf leap m < getD (monthStarts leap) m 0
+grows : (leap : Bool) (m : ℕ) → 1 ≤ m → m ≤ lastMonth → monthStart leap m < getD (monthStarts leap) m 0
 unfolding growTest
 grows leap m h k =
-    ltb-true (startOf leap m) (getD (monthStarts leap) m 0)
+    ltb-true (monthStart leap m) (getD (monthStarts leap) m 0)
     (or-second (leb m 0) _ (lt-leb m 0 (omega arith)) (below-at (lastMonth + 1) (growTest leap) (all-grow leap) m (omega arith)))
 
-december : (leap : Bool) → (daysIn leap lastMonth ≡ decemberDays) × (startOf leap 1 ≡ 0)
+december : (leap : Bool) → (daysIn leap lastMonth ≡ decemberDays) × (monthStart leap 1 ≡ 0)
 december true = (refl, refl)
 december false = (refl, refl)
 
-december-start : (y : ℕ) → firstYear < y → yearDays * (y - 1 - firstYear) + (y - 1 - (firstYear - 1)) / cycleYears + (startOf (isLeap (y - 1)) lastMonth + (decemberDays - 1)) + 1 ≡ yearDays * (y - firstYear) + (y - (firstYear - 1)) / cycleYears + 0
+december-start : (y : ℕ) → firstYear < y → yearDays * (y - 1 - firstYear) + (y - 1 - (firstYear - 1)) / cycleYears + (monthStart (isLeap (y - 1)) lastMonth + (decemberDays - 1)) + 1 ≡ yearDays * (y - firstYear) + (y - (firstYear - 1)) / cycleYears + 0
 december-start y h = go (eqb ((y - 1) % cycleYears) 0) refl
   where
-    go : (b : Bool) → eqb ((y - 1) % cycleYears) 0 ≡ b → yearDays * (y - 1 - firstYear) + (y - 1 - (firstYear - 1)) / cycleYears + (startOf b lastMonth + (decemberDays - 1)) + 1 ≡ yearDays * (y - firstYear) + (y - (firstYear - 1)) / cycleYears + 0
+    go : (b : Bool) → eqb ((y - 1) % cycleYears) 0 ≡ b → yearDays * (y - 1 - firstYear) + (y - 1 - (firstYear - 1)) / cycleYears + (monthStart b lastMonth + (decemberDays - 1)) + 1 ≡ yearDays * (y - firstYear) + (y - (firstYear - 1)) / cycleYears + 0
     go true e = let k = eqb-true ((y - 1) % cycleYears) 0 e in omega arith
     go false e = let k = eqb-false ((y - 1) % cycleYears) 0 e in
         let l : (y - (firstYear - 1)) / cycleYears ≡ (y - firstYear) / cycleYears = omega arith in omega arith
@@ -110,7 +110,7 @@ unfolding dayBefore
 day-before d e n = go (ltb 1 (d .day)) refl (ltb 1 (d .month)) refl
   where
     v : Valid d
-    v = valid d e
+    v = date-valid d e
 
     go : (a : Bool) → ltb 1 (d .day) ≡ a → (b : Bool) → ltb 1 (d .month) ≡ b
         → Before d (cond a (date (d .year) (d .month) (d .day - 1)) (cond b (date (d .year) (d .month - 1) (daysIn (isLeap (d .year)) (d .month - 1))) (date (d .year - 1) lastMonth decemberDays)))

@@ -13,8 +13,8 @@ use Rattle.span.specs.Places.{upto}
 use Rattle.text_line.specs.TextLines.{bodyLines, textLines}
 use Rattle.dates.specs.Dates.{Date, isDate, dayNumber, dateOf}
 use Rattle.dates.specs.Digits.{readDate}
-use Rattle.pages.specs.Fields.{memberOf, whoOf, whenOf, whenceOf, isLong, readLong, noRecord, badVersion, badCall, badHome, badBid, badStamp, badOrigin, badHops, badName, badZip, badTown}
-use Rattle.pages.specs.Pages.{Page, version, member, skipped, dropped, versionOf, byLetter, readPage, Line, pagesOf, Mail, mailOf}
+use Rattle.pages.specs.Fields.{memberOf, whoOf, whenOf, whenceOf, isLong, readLong, notARecord, badVersion, badCall, badHome, badBid, badStamp, badOrigin, badHops, badName, badZip, badTown}
+use Rattle.pages.specs.Pages.{Page, version, member, skipped, dropped, versionOf, byLetter, readPage, ReadLine, pagesOf, Mail, mailOf}
 use Rattle.pages.specs.Stamps.{secondsOf, toSeconds, dayOf, toDate, dayBefore}
 
 -- To unfold it is to unfold all that reads a line: what an example computes with is named here alone.
@@ -39,7 +39,7 @@ sample-e : readPage (text "00 E WW OE3DZW F29OE3DZW007 F29OE3DZW006 OE3DZW 1 \"#
 unfolding pagesComputed
 sample-e = refl
 
-sample-r : readPage (text "R:990407/0944z @:OE3DZW.#OE3.AUT.EU [BayCom-Mailbox] Bcm1.40P") ≡ dropped noRecord
+sample-r : readPage (text "R:990407/0944z @:OE3DZW.#OE3.AUT.EU [BayCom-Mailbox] Bcm1.40P") ≡ dropped notARecord
 unfolding pagesComputed
 sample-r = refl
 
@@ -48,24 +48,24 @@ small-digits : readPage (text "5c V 10") ≡ version 10
 unfolding pagesComputed
 small-digits = refl
 
-no-digit : readPage (text "5G V 10") ≡ dropped noRecord
+no-digit : readPage (text "5G V 10") ≡ dropped notARecord
 unfolding pagesComputed
 no-digit = refl
 
-one-digit : readPage (text "5 V 10") ≡ dropped noRecord
+one-digit : readPage (text "5 V 10") ≡ dropped notARecord
 unfolding pagesComputed
 one-digit = refl
 
-no-space : readPage (text "5C.V 10") ≡ dropped noRecord
+no-space : readPage (text "5C.V 10") ≡ dropped notARecord
 unfolding pagesComputed
 no-space = refl
 
 -- an empty line is of another form
-empty : readPage (text "") ≡ dropped noRecord
+empty : readPage (text "") ≡ dropped notARecord
 unfolding pagesComputed
 empty = refl
 
-digits-alone : readPage (text "5C") ≡ dropped noRecord
+digits-alone : readPage (text "5C") ≡ dropped notARecord
 unfolding pagesComputed
 digits-alone = refl
 
@@ -74,15 +74,15 @@ flag-of-10 : readPage (text "00 ABCDEFGHIJ x") ≡ skipped
 unfolding pagesComputed
 flag-of-10 = refl
 
-flag-of-11 : readPage (text "00 ABCDEFGHIJK x") ≡ dropped noRecord
+flag-of-11 : readPage (text "00 ABCDEFGHIJK x") ≡ dropped notARecord
 unfolding pagesComputed
 flag-of-11 = refl
 
-flag-of-0 : readPage (text "00  x") ≡ dropped noRecord
+flag-of-0 : readPage (text "00  x") ≡ dropped notARecord
 unfolding pagesComputed
 flag-of-0 = refl
 
-flag-ends : readPage (text "00 X") ≡ dropped noRecord
+flag-ends : readPage (text "00 X") ≡ dropped notARecord
 unfolding pagesComputed
 flag-ends = refl
 
@@ -227,7 +227,7 @@ abbrev line : Bytes → Bytes → Bytes
 line w r = w ++ cons CR r
 
 abbrev pages : Mail → List Page
-pages m = map (λ (l : Line). l .page) (m .records)
+pages m = map (λ (l : ReadLine). l .page) (m .records)
 
 -- 004's sample: V and M are given, B and E skipped, the routing header dropped. CR LF changes nothing, nor does a last line without its CR.
 abbrev sample : Bytes

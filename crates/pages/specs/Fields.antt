@@ -12,8 +12,8 @@ use Rattle.grammar.specs.Fields.{field, isCall, isAt, isBid, digit, readFrom}
 use Rattle.span.specs.Places.{upto}
 
 -- Why a line is dropped, by this reader's own numbers.
-abbrev pub noRecord : ℕ
-noRecord = 1
+abbrev pub notARecord : ℕ
+notARecord = 1
 
 abbrev pub badVersion : ℕ
 badVersion = 2

@@ -11,7 +11,7 @@ use Rattle.grammar.specs.Ascii.{char}
 use Rattle.grammar.specs.Fields.{hexDigit, readSize}
 use Rattle.span.specs.Places.{upto}
 use Rattle.text_line.specs.TextLines.{bodyLines}
-use Rattle.pages.specs.Fields.{Read, says, breaks, Member, memberOf, noRecord, badVersion}
+use Rattle.pages.specs.Fields.{Read, says, breaks, Member, memberOf, notARecord, badVersion}
 
 -- ---------------------------------------------------------------- a line
 
@@ -69,8 +69,8 @@ abbrev pub flagM : ℕ
 flagM = char "M"
 
 -- A record by its flag. Its data begin behind a flag of one byte and a space.
-abbrev pub dataPlace : ℕ
-dataPlace = flagPlace + 1 + 1
+abbrev pub dataAfterFlag : ℕ
+dataAfterFlag = flagPlace + 1 + 1
 
 unfoldable pub byLetter : ℕ → Bytes → Page
 byLetter b d = cond (eqb b flagV) (versionOf d) (cond (eqb b flagM) (memberBy (memberOf d)) skipped)
@@ -78,20 +78,20 @@ byLetter b d = cond (eqb b flagV) (versionOf d) (cond (eqb b flagM) (memberBy (m
 unfoldable pub readPage : Bytes → Page
 readPage l =
     cond (leads l && hasFlag l)
-    (cond (eqb (flagLength l) 1) (byLetter (getD l flagPlace 0) (drop dataPlace l)) skipped)
-    (dropped noRecord)
+    (cond (eqb (flagLength l) 1) (byLetter (getD l flagPlace 0) (drop dataAfterFlag l)) skipped)
+    (dropped notARecord)
 
 -- ---------------------------------------------------------------- a mail
 
 -- A line with what it is.
-pub record Line : Type 0 where
+pub record ReadLine : Type 0 where
   pub bytes : Bytes
   pub page : Page
 
-abbrev pub lineOf : Bytes → Line
+abbrev pub lineOf : Bytes → ReadLine
 lineOf l = record { bytes = l; page = readPage l }
 
-unfoldable pub pagesOf : Bytes → List Line
+unfoldable pub pagesOf : Bytes → List ReadLine
 pagesOf x = map lineOf (bodyLines x)
 
 -- "`10` is version 1.0; above 10 in any V record"
@@ -104,7 +104,7 @@ isNewer (member m) = false
 isNewer skipped = false
 isNewer (dropped n) = false
 
-abbrev pub anyNewer : List Line → Bool
+abbrev pub anyNewer : List ReadLine → Bool
 anyNewer [] = false
 anyNewer (l ∷ ls) = isNewer (l .page) || anyNewer ls
 
@@ -114,31 +114,31 @@ isRecord (member m) = true
 isRecord skipped = false
 isRecord (dropped n) = false
 
-abbrev pub isDropped : Page → Bool
-isDropped (version n) = false
-isDropped (member m) = false
-isDropped skipped = false
-isDropped (dropped n) = true
+abbrev pub isDroppedLine : Page → Bool
+isDroppedLine (version n) = false
+isDroppedLine (member m) = false
+isDroppedLine skipped = false
+isDroppedLine (dropped n) = true
 
-abbrev pub kept : (Page → Bool) → List Line → List Line
-kept p [] = []
-kept p (l ∷ ls) = cond (p (l .page)) (l ∷ kept p ls) (kept p ls)
+abbrev pub linesThat : (Page → Bool) → List ReadLine → List ReadLine
+linesThat p [] = []
+linesThat p (l ∷ ls) = cond (p (l .page)) (l ∷ linesThat p ls) (linesThat p ls)
 
 pub record Mail : Type 0 where
   pub unread : Bool
-  pub records : List Line
+  pub records : List ReadLine
   pub dropped : ℕ
 
 -- "a line of another form is dropped and counted"; "the whole mail is left unread, with no record given and none counted as dropped"
-abbrev pub mailBy : List Line → Mail
-mailBy ls = cond (anyNewer ls) (record { unread = true; records = []; dropped = 0 }) (record { unread = false; records = kept isRecord ls; dropped = length (kept isDropped ls) })
+abbrev pub mailBy : List ReadLine → Mail
+mailBy ls = cond (anyNewer ls) (record { unread = true; records = []; dropped = 0 }) (record { unread = false; records = linesThat isRecord ls; dropped = length (linesThat isDroppedLine ls) })
 
 unfoldable pub mailOf : Bytes → Mail
 mailOf x = mailBy (pagesOf x)
 
 -- ---------------------------------------------------------------- what is counted, line by line
 
-pub record Tally : Type 0 where
+pub record MailTally : Type 0 where
   pub records : ℕ
   pub dropped : ℕ
   pub version : ℕ
@@ -146,17 +146,17 @@ pub record Tally : Type 0 where
 abbrev pub higher : ℕ → ℕ → ℕ
 higher a b = cond (ltb a b) b a
 
-abbrev pub tallied : Tally → Page → Tally
+abbrev pub tallied : MailTally → Page → MailTally
 tallied t (version n) = record { records = t .records + 1; dropped = t .dropped; version = higher (t .version) n }
 tallied t (member m) = record { records = t .records + 1; dropped = t .dropped; version = t .version }
 tallied t skipped = t
 tallied t (dropped n) = record { records = t .records; dropped = t .dropped + 1; version = t .version }
 
-abbrev pub tally : Tally → List Line → Tally
+abbrev pub tally : MailTally → List ReadLine → MailTally
 tally t [] = t
 tally t (l ∷ ls) = tally (tallied t (l .page)) ls
 
-abbrev pub noTally : Tally
+abbrev pub noTally : MailTally
 noTally = record { records = 0; dropped = 0; version = 0 }
 
 -- The highest version that a V record says; 0 where there is none.
@@ -166,7 +166,7 @@ versionIn (member m) = 0
 versionIn skipped = 0
 versionIn (dropped n) = 0
 
-abbrev pub newest : List Line → ℕ
+abbrev pub newest : List ReadLine → ℕ
 newest [] = 0
 newest (l ∷ ls) = higher (versionIn (l .page)) (newest ls)
 
@@ -184,5 +184,5 @@ unfoldable pub surveyOf : Bytes → Survey
 surveyOf x = surveyBy (mailOf x) (newest (pagesOf x))
 
 -- The lines that are handed out from a place on, where the mail is known to be left unread or not.
-abbrev pub handed : Bool → Bytes → List Line
+abbrev pub handed : Bool → Bytes → List ReadLine
 handed unread x = cond unread [] (pagesOf x)

@@ -22,24 +22,24 @@ use Rattle.proposal.specs.declared.TurnLine.{TurnLine}
 use Rattle.proposal.specs.Meaning.{turnLineIs, proposalIs, endIs}
 use Rattle.proposal.proofs.Laws.{says-as}
 use Rattle.transfer_step.specs.declared.Reader.{Reader}
-use Rattle.session_memory.specs.State.{at}
+use Rattle.session_memory.specs.State.{cursorAt}
 use Rattle.session_memory.specs.declared.Five.{Five}
 use Rattle.session_memory.specs.Session.{Await}
 use Rattle.session_memory.specs.Session.{Session}
 use Rattle.session_memory.specs.Setters.{withProposals, withSum, withReader, withNow, withSay, withReading}
-use Rattle.phase.specs.Phase.{phaseOver, notOurTurn, ourTurn, ourTurnAfterFF, blockLimit, noProposal}
+use Rattle.phase.specs.Phase.{phaseOver, notOurTurn, ourTurnNow, ourTurnAfterFF, blockLimit, noProposal}
 use Rattle.places.specs.Places.{proposalLen}
 use Rattle.our_answer.specs.Answers.{answersOf}
 use Rattle.partner_turn.specs.Check.{rightBy}
 use Rattle.line_effect.specs.Judged.{Judged}
-use Rattle.line_effect.specs.Judge.{refusal, wentOn, inPhase, toTransfer, saysSigns, readerFor, wholeTurn, ffLine, fqLine, nextAccepted, answered, endLine, summedLine, proposalLine, lineSum, turnRead, turnLine}
+use Rattle.line_effect.specs.Judge.{refusal, wentOn, inPhase, toTransfer, saysSigns, readerFor, wholeTurn, ffLine, fqLine, nextAccepted, answered, endLine, summedLine, proposalTaken, lineSum, turnRead, turnLine}
 
 -- our signs are said; v and r are what is awaited and read then
 module _ (signs : Five) (s : Session) (i : ℕ) (j : Judged) (e : i ≡ nextAccepted signs 0) where
   by-place : j ≡ answered signs i s → j ≡ answered signs (nextAccepted signs 0) s
   by-place f = f ∙ ap (λ (n : ℕ). answered signs n s) e
 
-  pub answered-none : i ≡ noProposal → j ≡ wholeTurn ourTurn (withSay (saysSigns signs (s .say)) s) → j ≡ answered signs (nextAccepted signs 0) s
+  pub answered-none : i ≡ noProposal → j ≡ wholeTurn ourTurnNow (withSay (saysSigns signs (s .say)) s) → j ≡ answered signs (nextAccepted signs 0) s
   answered-none h f = by-place (rw (eq-eqb _ _ h) f)
 
   -- the transfer awaited and its reader
@@ -118,10 +118,10 @@ module _ (s : Session) where
 
   -- a proposal of the partner's; n: the sum of its line, a: the sum with it
   pub proposed : (ln : Bytes) (n a : ℕ) (p : Proposal) (block : Bytes) (j : Judged) → p .form ≤ formNumber file → s .now .proposals < blockLimit → a ≡ (s .now .sum + n) % byteValues
-      → block ≡ putBytes (s .now .block) (at (s .now .proposals * proposalLen)) (proposalOut (p .form) (p .kind) (part ln (p .from)) (part ln (p .at)) (part ln (p .to)) (part ln (p .bid)) (p .size))
+      → block ≡ putBytes (s .now .block) (cursorAt (s .now .proposals * proposalLen)) (proposalOut (p .form) (p .kind) (part ln (p .from)) (part ln (p .at)) (part ln (p .to)) (part ln (p .bid)) (p .size))
       → j ≡ wentOn (withNow (withSum a (withProposals (s .now .proposals + 1) block (s .now))) s)
-      → j ≡ proposalLine (proposalIs ln p) n s
-  unfolding proposalLine
+      → j ≡ proposalTaken (proposalIs ln p) n s
+  unfolding proposalTaken
   proposed ln n a p block j h b q e f = rw (lt-ltb _ _ b, form-number (p .form) h, ← e, ← q) f
 
   -- a line of a turn
@@ -142,5 +142,5 @@ unfolding lineSum
 sum-cr l n r e f = f ∙ ap (λ (x : ℕ). (x + CR) % byteValues) e ∙ sym (sum-wraps l CR)
 
 -- a proposal by its line's sum
-pub same-sum : (q : turns.Proposal) (s : Session) (n m : ℕ) → n ≡ m → (j : Judged) → j ≡ proposalLine q n s → j ≡ proposalLine q m s
-same-sum q s n m e j f = f ∙ ap (λ (x : ℕ). proposalLine q x s) e
+pub same-sum : (q : turns.Proposal) (s : Session) (n m : ℕ) → n ≡ m → (j : Judged) → j ≡ proposalTaken q n s → j ≡ proposalTaken q m s
+same-sum q s n m e j f = f ∙ ap (λ (x : ℕ). proposalTaken q x s) e

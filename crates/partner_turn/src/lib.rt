@@ -21,9 +21,9 @@ ghost use Rattle.span.specs.Places.{part};
 ghost use Rattle.layout.specs.Layout.{proposalOut};
 ghost use Rattle.proposal.specs.Meaning.{ProposalLies, proposalIs, endIs};
 ghost use Rattle.partner_turn.specs.Check.{rightBy};
-ghost use Rattle.session_memory.specs.State.{at};
+ghost use Rattle.session_memory.specs.State.{cursorAt};
 ghost use Rattle.numbers.specs.Whole.{Arrays, withBlock, sessionOf};
-ghost use Rattle.line_effect.specs.Judge.{wholeTurn, nextAccepted, answered, proposalLine, ffLine, fqLine, lineSum, turnRead, turnLine};
+ghost use Rattle.line_effect.specs.Judge.{wholeTurn, nextAccepted, answered, proposalTaken, ffLine, fqLine, lineSum, turnRead, turnLine};
 ghost use Rattle.line_effect.specs.Verdict.{judgedOf};
 
 // The partner's turn is whole, so what we were sending is forwarded.
@@ -95,7 +95,7 @@ fn end_line(
 // The block with a proposal written at a place.
 fn with_proposal(line: &[u8], p: Proposal, block: &mut [u8], place: usize)
     requires { ⌜ ProposalLies (now line) p ⌝ }
-    ensures { λ _. ⌜ now (block .exit) ≡ putBytes (now (block .entry)) (at place) (proposalOut (p .form) (p .kind) (part (now (line .entry)) (p .from)) (part (now (line .entry)) (p .at)) (part (now (line .entry)) (p .to)) (part (now (line .entry)) (p .bid)) (p .size)) ⌝ }
+    ensures { λ _. ⌜ now (block .exit) ≡ putBytes (now (block .entry)) (cursorAt place) (proposalOut (p .form) (p .kind) (part (now (line .entry)) (p .from)) (part (now (line .entry)) (p .at)) (part (now (line .entry)) (p .to)) (part (now (line .entry)) (p .bid)) (p .size)) ⌝ }
 {
     let a1 = p.from.start;
     let e1 = p.from.end;
@@ -122,7 +122,7 @@ fn with_proposal(line: &[u8], p: Proposal, block: &mut [u8], place: usize)
 // A proposal of the partner's; sum: that of its line.
 fn proposal_line(line: &[u8], sum: u8, p: Proposal, s: Numbers, block: &mut [u8]) -> Verdict
     requires { ⌜ ProposalLies (now line) p ⌝ }
-    ensures { λ r. ⌜ ((a : Arrays) → judgedOf r (withBlock (now (block .exit)) a) ≡ proposalLine (proposalIs (now (line .entry)) p) sum (sessionOf s (withBlock (now (block .entry)) a))) ⌝ }
+    ensures { λ r. ⌜ ((a : Arrays) → judgedOf r (withBlock (now (block .exit)) a) ≡ proposalTaken (proposalIs (now (line .entry)) p) sum (sessionOf s (withBlock (now (block .entry)) a))) ⌝ }
 {
     if phase::BLOCK_LIMIT <= s.now.proposals {
         return refusal(refusal::PROPOSAL_COUNT, s);

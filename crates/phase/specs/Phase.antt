@@ -74,8 +74,8 @@ pieceTransfers = 4
 abbrev pub notOurTurn : ℕ
 notOurTurn = 0
 
-abbrev pub ourTurn : ℕ
-ourTurn = 1
+abbrev pub ourTurnNow : ℕ
+ourTurnNow = 1
 
 -- the partner's turn just now was FF
 abbrev pub ourTurnAfterFF : ℕ

@@ -15,7 +15,7 @@ atMax = fields.atMax
 
 -- what follows the first `.` of an at
 abbrev pub hierarchyMax : ℕ
-hierarchyMax = fields.afterDotMax
+hierarchyMax = fields.hierarchyMax
 
 abbrev pub bidMax : ℕ
 bidMax = fields.bidMax
@@ -24,7 +24,7 @@ abbrev pub headingMax : ℕ
 headingMax = fields.headingMax
 
 abbrev pub bodyMax : ℕ
-bodyMax = fields.bodyLimit
+bodyMax = fields.bodyMax
 
 -- ---------------------------------------------------------------- A number that is no byte lies in two, four or eight, the lowest first
 

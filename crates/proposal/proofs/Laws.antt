@@ -18,12 +18,12 @@ use Rattle.byte.specs.declared.Hex.{Hex}
 use Rattle.byte.specs.Hex.{hexIs}
 use Rattle.span.specs.declared.Span.{Span}
 use Rattle.size.specs.declared.Size.{Size}
-use Rattle.span.specs.Places.{part, wordsBy}
+use Rattle.span.specs.Places.{part, wordsBy, Lies}
 use Rattle.size.specs.Meaning.{sizeIs}
 use Rattle.proposal.specs.declared.TurnLine.{TurnLine}
 use Rattle.proposal.specs.declared.Seven.{Seven}
 use Rattle.proposal.specs.declared.Split.{Split}
-use Rattle.proposal.specs.Meaning.{isWord, turnLineIs, LiesIn, Within, SevenLie, wordsOf, SplitIs, formBy, typeBy, fieldsHold, sevenBy, fieldCount, endLength, summedLength, noForm}
+use Rattle.proposal.specs.Meaning.{isWord, turnLineIs, LiesIn, SevenLie, wordsOf, SplitIs, formBy, typeBy, fieldsHold, sevenBy, fieldCount, endLength, summedLength, noForm}
 
 -- ---------------------------------------------------------------- a word in either case
 
@@ -52,9 +52,9 @@ word-end s w i h k = rw (drop-of-length-le s {i = i} h, drop-of-length-le w {i =
 -- every span lies in the line
 abbrev pub AllLie : Bytes → List Span → Type 0
 AllLie l [] = Unit {0}
-AllLie l (s ∷ ss) = Within l s × AllLie l ss
+AllLie l (s ∷ ss) = Lies l s × AllLie l ss
 
-lie-snoc : (l : Bytes) (ss : List Span) (s : Span) → AllLie l ss → Within l s → AllLie l (ss ++ (s ∷ []))
+lie-snoc : (l : Bytes) (ss : List Span) (s : Span) → AllLie l ss → Lies l s → AllLie l (ss ++ (s ∷ []))
 lie-snoc l [] s a w = (w, tt)
 lie-snoc l (x ∷ ss) s a w = (a .0, lie-snoc l ss s (a .1) w)
 
@@ -63,14 +63,14 @@ map-snoc l [] s r = refl
 map-snoc l (x ∷ ss) s r = ap (λ (t : List Bytes). part l x ∷ t) (map-snoc l ss s r)
 
 -- the first i words are those of the first i spans, which lie in the line, and the others come from a place on
-pub record Read (l : Bytes) (ss : List Span) (at i : ℕ) : Type 0 where
+pub record WordsRead (l : Bytes) (ss : List Span) (at i : ℕ) : Type 0 where
   pub places : length ss ≡ fieldCount
   pub count : i ≤ fieldCount
   pub said : words l ≡ map (part l) (take i ss) ++ words (drop at l)
   pub lie : AllLie l (take i ss)
 
-module _ (l : Bytes) (ss : List Span) (at i : ℕ) (h : Read l ss at i) (s : Span) (f : words (drop at l) ≡ wordsBy l s) where
-  pub read-more : i < fieldCount → s .start < s .end → s .end ≤ length l → Read l (set ss i s) (s .end) (i + 1)
+module _ (l : Bytes) (ss : List Span) (at i : ℕ) (h : WordsRead l ss at i) (s : Span) (f : words (drop at l) ≡ wordsBy l s) where
+  pub read-more : i < fieldCount → s .start < s .end → s .end ≤ length l → WordsRead l (set ss i s) (s .end) (i + 1)
   read-more k e b =
       let p = h .places in
       let t : take (i + 1) (set ss i s) ≡ take i ss ++ (s ∷ []) = rw (add-one i) (take-suc-set ss i s (omega arith)) in
@@ -105,10 +105,10 @@ seven-named l (a ∷ b ∷ c ∷ d ∷ e ∷ f ∷ g ∷ []) n h =
     (refl, record { letters = h .0; kind = h .1 .0; from = h .1 .1 .0; at = h .1 .1 .1 .0; to = h .1 .1 .1 .1 .0; bid = h .1 .1 .1 .1 .1 .0; size = h .1 .1 .1 .1 .1 .1 .0 })
 seven-named l (a ∷ b ∷ c ∷ d ∷ e ∷ f ∷ g ∷ x ∷ ss) n h = let z : ⊥ = omega arith in absurd z
 
-pub read-start : (l : Bytes) (ss : List Span) → length ss ≡ fieldCount → Read l ss 0 0
-read-start l ss n = record { places = n; count = omega arith; said = refl; lie = tt }
+pub words-read-start : (l : Bytes) (ss : List Span) → length ss ≡ fieldCount → WordsRead l ss 0 0
+words-read-start l ss n = record { places = n; count = omega arith; said = refl; lie = tt }
 
-pub read-seven : (l : Bytes) (ss : List Span) (at i : ℕ) → Read l ss at i → (s : Span) → words (drop at l) ≡ wordsBy l s → s .end ≤ s .start → fieldCount ≤ i → SplitIs l (Split.Words (sevenOf ss))
+pub read-seven : (l : Bytes) (ss : List Span) (at i : ℕ) → WordsRead l ss at i → (s : Span) → words (drop at l) ≡ wordsBy l s → s .end ≤ s .start → fieldCount ≤ i → SplitIs l (Split.Words (sevenOf ss))
 read-seven l ss at i h s f e k =
     let p = h .places in
     let t : take i ss ≡ ss = take-all i ss (omega arith) in

@@ -10,8 +10,7 @@ use Rattle.grammar.specs.Bytes.{Bytes, same}
 use Rattle.grammar.specs.Fields.{Form, file, formNumber, formIs, upper, words, isCall, isAt, isBid}
 use Rattle.grammar.specs.Turns as turns
 use Rattle.byte.specs.declared.Hex.{Hex}
-use Rattle.span.specs.declared.Span.{Span}
-use Rattle.span.specs.Places.{part}
+use Rattle.span.specs.Places.{part, Lies}
 use Rattle.proposal.specs.declared.Proposal.{Proposal}
 use Rattle.proposal.specs.declared.TurnLine.{TurnLine}
 use Rattle.proposal.specs.declared.Seven.{Seven}
@@ -37,17 +36,13 @@ turnLineIs l (TurnLine.End check) = endIs check
 turnLineIs l TurnLine.NotAllowed = turns.notAllowed
 turnLineIs l (TurnLine.Proposed p) = turns.proposes (proposalIs l p)
 
--- The span lies in the line.
-abbrev pub Within : Bytes → Span → Type 0
-Within l s = (s .start ≤ s .end) × (s .end ≤ length l)
-
 -- The form is one of 01's three numbers, and the fields lie in the line.
 pub record ProposalLies (l : Bytes) (p : Proposal) : Type 0 where
   pub form : p .form ≤ formNumber file
-  pub from : Within l (p .from)
-  pub at : Within l (p .at)
-  pub to : Within l (p .to)
-  pub bid : Within l (p .bid)
+  pub from : Lies l (p .from)
+  pub at : Lies l (p .at)
+  pub to : Lies l (p .to)
+  pub bid : Lies l (p .bid)
 
 -- So it is with a proposal that is answered.
 abbrev pub LiesIn : Bytes → TurnLine → Type 0
@@ -87,13 +82,13 @@ typeBy n = cond (eqb n 0) none (some n)
 
 -- The seven fields lie in the line.
 pub record SevenLie (l : Bytes) (w : Seven) : Type 0 where
-  pub letters : Within l (w .letters)
-  pub kind : Within l (w .kind)
-  pub from : Within l (w .from)
-  pub at : Within l (w .at)
-  pub to : Within l (w .to)
-  pub bid : Within l (w .bid)
-  pub size : Within l (w .size)
+  pub letters : Lies l (w .letters)
+  pub kind : Lies l (w .kind)
+  pub from : Lies l (w .from)
+  pub at : Lies l (w .at)
+  pub to : Lies l (w .to)
+  pub bid : Lies l (w .bid)
+  pub size : Lies l (w .size)
 
 -- The seven words by their places.
 abbrev pub wordsOf : Bytes → Seven → List Bytes

@@ -55,11 +55,11 @@ enum Split {
 }
 
 // The forms by 01's numbers.
-const PLAIN: u8 = phase::FORM_PLAIN;
+const FORM_PLAIN: u8 = phase::FORM_PLAIN;
 
-const MESSAGE: u8 = phase::FORM_MESSAGE;
+const FORM_MESSAGE: u8 = phase::FORM_MESSAGE;
 
-const FILE: u8 = phase::FORM_FILE;
+const FORM_FILE: u8 = phase::FORM_FILE;
 
 // What form_of and type_of answer where there is none.
 const NO_FORM: u8 = 3;
@@ -67,7 +67,7 @@ const NO_FORM: u8 = 3;
 const NO_TYPE: u8 = 0;
 
 // The fields of a proposal.
-const FIELDS: usize = 7;
+const FIELD_COUNT: usize = 7;
 
 // The length of `F>` and a space, and of F> with a checksum.
 const END_LENGTH: usize = 3;
@@ -75,7 +75,7 @@ const END_LENGTH: usize = 3;
 const SUMMED_END: usize = END_LENGTH + 2;
 
 // The place of the second digit of the checksum.
-const LAST_DIGIT: usize = SUMMED_END - 1;
+const SUM_LAST_DIGIT: usize = SUMMED_END - 1;
 
 // The bytes are the word, in either case; the word is given in capitals.
 fn is_word(s: &[u8], word: &[u8]) -> bool
@@ -100,17 +100,17 @@ fn form_of(framed: bool, w: &[u8]) -> u8
 {
     if framed {
         if is_word(w, b"FA") {
-            return MESSAGE;
+            return FORM_MESSAGE;
         }
         if is_word(w, b"FB") {
-            return FILE;
+            return FORM_FILE;
         }
         return NO_FORM;
     }
     if !is_word(w, b"FB") {
         return NO_FORM;
     }
-    PLAIN
+    FORM_PLAIN
 }
 
 // The type, P or B.
@@ -130,10 +130,10 @@ fn type_of(w: &[u8]) -> u8
 fn seven_words(line: &[u8]) -> Split
     ensures { λ r. ⌜ SplitIs (now (line .entry)) r ⌝ }
 {
-    let mut w = [Span { start: 0, end: 0 }; FIELDS];
+    let mut w = [Span { start: 0, end: 0 }; FIELD_COUNT];
     let mut place = 0;
     let mut i = 0;
-    while i < FIELDS {
+    while i < FIELD_COUNT {
         let s = field_by_reader(line, place);
         if s.end <= s.start {
             return Split::NotSeven;
@@ -257,7 +257,7 @@ fn summed_end(line: &[u8]) -> Hex
     if !is_word(&line[..END_LENGTH], b"F> ") {
         return Hex::Other;
     }
-    hex_pair(line[END_LENGTH], line[LAST_DIGIT])
+    hex_pair(line[END_LENGTH], line[SUM_LAST_DIGIT])
 }
 
 // What a line, its spaces at the end removed, says in a turn; a proposal's fields lie in the line.

@@ -12,7 +12,7 @@ use Rattle.layout.specs.Layout.{byteAt}
 use Rattle.grammar.specs.Refusals.{badMemory, sessionEnded, noPlace}
 use Rattle.buffer.specs.Put.{putBytes}
 use Rattle.places.specs.Places.{sessionLen, numbersStart, arraysAt, arraysLen}
-use Rattle.session_memory.specs.State.{at, loadOf}
+use Rattle.session_memory.specs.State.{cursorAt, loadOf}
 use Rattle.session_memory.specs.Session.{Session}
 use Rattle.pending.specs.Pending.{overOf}
 use Rattle.form_test.specs.Form.{formOf}
@@ -21,16 +21,16 @@ use Rattle.give.specs.declared.Reply.{Reply}
 use Rattle.region.specs.Region.{lent}
 use Rattle.numbers.specs.declared.Numbers.{Numbers}
 use Rattle.numbers.specs.Whole.{wholeOf, numbersAt, numberBytes}
-use Rattle.numbers_in_place.proofs.Arrays.{arraysPart, arrays-length, load-arrays, saved-lent}
-use Rattle.byte_run.specs.Taking.{Takes, Live}
-use Rattle.receive_defined.specs.Receiving.{Cs, cs, moved, Run, run, stops, receiveFrom, Received, saved, receiveOf}
+use Rattle.numbers_in_place.proofs.Arrays.{arraysPart, arrays-part-length, load-arrays, saved-lent}
+use Rattle.byte_run.specs.Taking.{Takes, TakesBytes}
+use Rattle.receive_defined.specs.Receiving.{Cs, cs, moved, Run, runWith, stops, receiveFrom, Received, saved, receiveOf}
 use Rattle.receive_defined.specs.Portion.{portionOf}
 use Rattle.receive_defined.specs.Roomy.{Roomy}
 use Rattle.form_closed.specs.Fixed.{Fixed}
 use Rattle.form_closed.specs.Facts.{Octets, Good}
 use Rattle.form_closed.proofs.Laws.{octets-nil, octets-cons, octets-drop}
 use Rattle.form_closed.proofs.Saved.{good}
-use Rattle.receive.specs.Sound.{Sound}
+use Rattle.receive.specs.Sound.{FormHolds}
 use Rattle.receive_defined.proofs.Portions.{further, portion-count, portion-law}
 use Rattle.receive.proofs.Portions.{good-roomy, portion-good}
 
@@ -42,21 +42,21 @@ octets-of (x ∷ l) h = octets-cons (h 0) (octets-of l (λ i. h (suc i)))
 
 -- ---------------------------------------------------------------- for `take_bytes`
 
-pub sound-roomy : (h : Numbers) (m table inbox store : Bytes) → Sound (cs (wholeOf h m) table inbox store) → Roomy h (length store)
+pub sound-roomy : (h : Numbers) (m table inbox store : Bytes) → FormHolds (cs (wholeOf h m) table inbox store) → Roomy h (length store)
 sound-roomy h m table inbox store s = good-roomy (s .fixed) (s .table) (s .inbox) (s .store) h m table inbox store (s .good)
 
 -- i bytes are taken, and the state is c: the bytes after them lead to what all of them lead to from c₀
 pub record Taking (known : Bytes) (c₀ : Cs) (bs : Bytes) (c : Cs) (i : ℕ) : Type 0 where
   pub octets : Octets bs
-  pub sound : Sound c
+  pub sound : FormHolds c
   pub same : receiveFrom known c₀ 0 bs ≡ receiveFrom known c i (drop i bs)
 
-pub take-starts : (known : Bytes) (c : Cs) (bs : Bytes) → Octets bs → Sound c → Taking known c bs c 0
+pub take-starts : (known : Bytes) (c : Cs) (bs : Bytes) → Octets bs → FormHolds c → Taking known c bs c 0
 take-starts known c bs o s = record { octets = o; sound = s; same = refl }
 
 module _ (known : Bytes) (c₀ : Cs) (bs : Bytes) {c : Cs} {i : ℕ} (t : Taking known c₀ bs c i) where
   -- no byte is left
-  pub take-ends : length bs ≤ i → run 0 i c ≡ receiveFrom known c₀ 0 bs
+  pub take-ends : length bs ≤ i → runWith 0 i c ≡ receiveFrom known c₀ 0 bs
   unfolding receiveFrom
   take-ends h = sym (t .same ∙ ap (receiveFrom known c i) (drop-of-length-le bs h))
 
@@ -88,14 +88,14 @@ module _ (known : Bytes) (c₀ : Cs) (bs : Bytes) {c : Cs} {i : ℕ} (t : Taking
         ∙ ap (further known i (first ∷ rest)) (sym is-portion)
 
     -- the session stops at the portion's last byte
-    stopped : stops (moved (p .answer) (p .cs)) ≡ true → run (p .answer) (i + p .count) (p .cs) ≡ receiveFrom known c₀ 0 bs
+    stopped : stops (moved (p .answer) (p .cs)) ≡ true → runWith (p .answer) (i + p .count) (p .cs) ≡ receiveFrom known c₀ 0 bs
     stopped s = sym (on ∙ rw s)
 
-    pub take-refused : (p .answer ≡ 0 → ⊥) → run (p .answer) (i + p .count) (p .cs) ≡ receiveFrom known c₀ 0 bs
+    pub take-refused : (p .answer ≡ 0 → ⊥) → runWith (p .answer) (i + p .count) (p .cs) ≡ receiveFrom known c₀ 0 bs
     take-refused n = stopped (rw (ne-eqb (p .answer) 0 n))
 
-    pub take-over : {v : Bool} → p .answer ≡ 0 → v ≡ overOf (p .cs .session) → v ≡ true → run 0 (i + p .count) (p .cs) ≡ receiveFrom known c₀ 0 bs
-    take-over a o v = ap (λ (n : ℕ). run n (i + p .count) (p .cs)) (sym a) ∙ stopped (rw (eq-eqb (p .answer) 0 a, sym o ∙ v))
+    pub take-over : {v : Bool} → p .answer ≡ 0 → v ≡ overOf (p .cs .session) → v ≡ true → runWith 0 (i + p .count) (p .cs) ≡ receiveFrom known c₀ 0 bs
+    take-over a o v = ap (λ (n : ℕ). runWith n (i + p .count) (p .cs)) (sym a) ∙ stopped (rw (eq-eqb (p .answer) 0 a, sym o ∙ v))
 
     -- a turn of the loop
     pub take-more : {v : Bool} → p .answer ≡ 0 → v ≡ overOf (p .cs .session) → v ≡ false → Taking known c₀ bs (p .cs) (i + p .count)
@@ -115,23 +115,23 @@ module _ (known : Bytes) (c₀ : Cs) (bs : Bytes) {c : Cs} {i : ℕ} (t : Taking
 
 -- ---------------------------------------------------------------- for `take_all`
 
-module _ (h : Numbers) (sm bs : Bytes) (v : Live h sm bs) where
+module _ (h : Numbers) (sm bs : Bytes) (v : TakesBytes h sm bs) where
   pub loads : loadOf sm ≡ wholeOf h (arraysPart sm)
   loads = load-arrays sm (v .size) ∙ ap (λ (x : Numbers). wholeOf x (arraysPart sm)) (sym (v .numbers))
 
-  pub loaded-sound : (table inbox store : Bytes) → Sound (cs (loadOf sm) table inbox store) → Sound (cs (wholeOf h (arraysPart sm)) table inbox store)
-  loaded-sound table inbox store s = subst (λ (x : Session). Sound (cs x table inbox store)) loads s
+  pub loaded-sound : (table inbox store : Bytes) → FormHolds (cs (loadOf sm) table inbox store) → FormHolds (cs (wholeOf h (arraysPart sm)) table inbox store)
+  loaded-sound table inbox store s = subst (λ (x : Session). FormHolds (cs x table inbox store)) loads s
 
-  pub loaded-roomy : (table inbox store : Bytes) → Sound (cs (loadOf sm) table inbox store) → Roomy h (length store)
+  pub loaded-roomy : (table inbox store : Bytes) → FormHolds (cs (loadOf sm) table inbox store) → Roomy h (length store)
   loaded-roomy table inbox store s = sound-roomy h (arraysPart sm) table inbox store (loaded-sound table inbox store s)
 
   -- the arrays are w after the bytes, and then the numbers are saved
   pub all-saved : (known table inbox store : Bytes) (n k : ℕ) (t : Numbers) (w table′ inbox′ store′ x : Bytes) (r : Reply) → length w ≡ length (arraysPart sm)
-      → run n k (cs (wholeOf t w) table′ inbox′ store′) ≡ receiveFrom known (cs (wholeOf h (arraysPart sm)) table inbox store) 0 bs
-      → x ≡ putBytes (lent arraysAt arraysLen sm w) (at numbersStart) (numberBytes t) → r ≡ reply n 0 k
+      → runWith n k (cs (wholeOf t w) table′ inbox′ store′) ≡ receiveFrom known (cs (wholeOf h (arraysPart sm)) table inbox store) 0 bs
+      → x ≡ putBytes (lent arraysAt arraysLen sm w) (cursorAt numbersStart) (numberBytes t) → r ≡ reply n 0 k
       → _≡_ {A = Received} (record { reply = r; sm = x; table = table′; inbox = inbox′; store = store′ }) (saved sm (receiveFrom known (cs (loadOf sm) table inbox store) 0 bs))
   all-saved known table inbox store n k t w table′ inbox′ store′ x r l e f g =
-      let z : length w ≡ arraysLen = l ∙ arrays-length sm (v .size) in
+      let z : length w ≡ arraysLen = l ∙ arrays-part-length sm (v .size) in
       ap (λ (y : Reply). record { reply = y; sm = x; table = table′; inbox = inbox′; store = store′ }) g
       ∙ ap (λ (y : Bytes). record { reply = reply n 0 k; sm = y; table = table′; inbox = inbox′; store = store′ }) (saved-lent sm w t (v .size) z f)
       ∙ ap (saved sm) e ∙ ap (λ (y : Session). saved sm (receiveFrom known (cs y table inbox store) 0 bs)) (sym loads)
@@ -164,7 +164,7 @@ module _ (sm table titles names bodies known inbox store bs : Bytes) {b : Bool} 
     form-size = eqb-true (length sm) sessionLen (and-first _ _ (sym f ∙ q))
 
     -- the facts of the form test hold of the state that is loaded
-    pub receive-sound : Octets sm → Octets table → Octets inbox → Octets store → Sound (cs (loadOf sm) table inbox store)
+    pub receive-sound : Octets sm → Octets table → Octets inbox → Octets store → FormHolds (cs (loadOf sm) table inbox store)
     unfolding fixed
     receive-sound os ot oi oo =
         record {
@@ -190,7 +190,7 @@ module _ (sm table titles names bodies known inbox store bs : Bytes) {b : Bool} 
       receive-none w n d = ap unchanged d ∙ rw (sym f ∙ q, sym over-is ∙ w, eq-eqb (length bs) 0 n)
 
       module _ (w : v ≡ false) (n : length bs ≡ 0 → ⊥) where
-        pub receive-live : Live h sm bs
+        pub receive-live : TakesBytes h sm bs
         receive-live = record { size = form-size; numbers = e; going = sym over-is ∙ w; some = n }
 
         -- bytes are taken, and the state after them is saved
@@ -211,15 +211,15 @@ module _ (sm table titles names bodies known inbox store bs : Bytes) {b : Bool} 
       kept : (x ≡ sm) × (st ≡ store)
       kept = subst (λ (y : Bool). Takes y sm store bs x st) k t
 
-      pub still-live : {h : Numbers} → Live h sm bs → Live h x bs
-      still-live {h} l = subst (λ (y : Bytes). Live h y bs) (sym (kept .0)) l
+      pub still-live : {h : Numbers} → TakesBytes h sm bs → TakesBytes h x bs
+      still-live {h} l = subst (λ (y : Bytes). TakesBytes h y bs) (sym (kept .0)) l
 
       -- the numbers loaded again
-      pub again-live : {h g : Numbers} → Live h sm bs → g ≡ numbersAt x → Live g x bs
+      pub again-live : {h g : Numbers} → TakesBytes h sm bs → g ≡ numbersAt x → TakesBytes g x bs
       again-live l e = let m = still-live l in record { size = m .size; numbers = e; going = m .going; some = m .some }
 
-      pub still-sound : Sound (cs (loadOf sm) table inbox store) → Sound (cs (loadOf x) table inbox st)
-      still-sound s = subst (λ (y : Bytes). Sound (cs (loadOf x) table inbox y)) (sym (kept .1)) (subst (λ (y : Bytes). Sound (cs (loadOf y) table inbox store)) (sym (kept .0)) s)
+      pub still-sound : FormHolds (cs (loadOf sm) table inbox store) → FormHolds (cs (loadOf x) table inbox st)
+      still-sound s = subst (λ (y : Bytes). FormHolds (cs (loadOf x) table inbox y)) (sym (kept .1)) (subst (λ (y : Bytes). FormHolds (cs (loadOf y) table inbox store)) (sym (kept .0)) s)
 
       pub still-saved : {r : Received} → r ≡ saved x (receiveFrom known (cs (loadOf x) table inbox st) 0 bs) → r ≡ saved sm (receiveFrom known (cs (loadOf sm) table inbox store) 0 bs)
       still-saved e =

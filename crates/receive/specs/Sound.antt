@@ -4,7 +4,7 @@ use Rattle.receive_defined.specs.Receiving.{Cs}
 use Rattle.form_closed.specs.Fixed.{Fixed}
 use Rattle.form_closed.specs.Facts.{Good}
 
-pub record Sound (c : Cs) : Type 0 where
+pub record FormHolds (c : Cs) : Type 0 where
   pub fixed : Fixed
   pub table : ℕ
   pub inbox : ℕ

@@ -8,9 +8,9 @@ ghost use Rattle.places.specs.Places.{arraysLen};
 ghost use Rattle.session_memory.specs.State.{loadOf};
 ghost use Rattle.numbers.specs.Whole.{wholeOf};
 ghost use Rattle.give.specs.Giving.{reply};
-ghost use Rattle.receive_defined.specs.Receiving.{cs, run, receiveFrom, saved, receiveOf};
-ghost use Rattle.byte_run.specs.Taking.{Live};
-ghost use Rattle.receive.specs.Sound.{Sound};
+ghost use Rattle.receive_defined.specs.Receiving.{cs, runWith, receiveFrom, saved, receiveOf};
+ghost use Rattle.byte_run.specs.Taking.{TakesBytes};
+ghost use Rattle.receive.specs.Sound.{FormHolds};
 
 // What is answered.
 fn reply(answer: u8, place: u8, count: usize) -> Reply
@@ -33,8 +33,8 @@ fn take_bytes(
     inbox: &mut [u8],
     store: &mut [u8],
 ) -> Taken
-    requires { ⌜ Sound (cs (wholeOf s (now mem)) (now table) (now inbox) (now store)) × (length (now mem) ≡ arraysLen) ⌝ }
-    ensures { λ r. ⌜ run (r .answer) (r .count) (cs (wholeOf (r .session) (now (mem .exit))) (now (table .exit)) (now (inbox .exit)) (now (store .exit))) ≡ receiveFrom (now (known .entry)) (cs (wholeOf s (now (mem .entry))) (now (table .entry)) (now (inbox .entry)) (now (store .entry))) 0 (now (bytes .entry)) ⌝ }
+    requires { ⌜ FormHolds (cs (wholeOf s (now mem)) (now table) (now inbox) (now store)) × (length (now mem) ≡ arraysLen) ⌝ }
+    ensures { λ r. ⌜ runWith (r .answer) (r .count) (cs (wholeOf (r .session) (now (mem .exit))) (now (table .exit)) (now (inbox .exit)) (now (store .exit))) ≡ receiveFrom (now (known .entry)) (cs (wholeOf s (now (mem .entry))) (now (table .entry)) (now (inbox .entry)) (now (store .entry))) 0 (now (bytes .entry)) ⌝ }
 {
     let mut t = s;
     let mut i = 0usize;
@@ -75,7 +75,7 @@ fn take_all(
     inbox: &mut [u8],
     store: &mut [u8],
 ) -> Reply
-    requires { ⌜ Live s (now sm) (now bytes) × Sound (cs (loadOf (now sm)) (now table) (now inbox) (now store)) ⌝ }
+    requires { ⌜ TakesBytes s (now sm) (now bytes) × FormHolds (cs (loadOf (now sm)) (now table) (now inbox) (now store)) ⌝ }
     ensures { λ r. ⌜ record { reply = r; sm = now (sm .exit); table = now (table .exit); inbox = now (inbox .exit); store = now (store .exit) } ≡ saved (now (sm .entry)) (receiveFrom (now (known .entry)) (cs (loadOf (now (sm .entry))) (now (table .entry)) (now (inbox .entry)) (now (store .entry))) 0 (now (bytes .entry))) ⌝ }
 {
     let r = take_bytes(
@@ -116,7 +116,7 @@ pub fn receive<'a>(
     if bytes.len() == 0 {
         return reply(refusal::NONE, 0, 0);
     }
-    if byte_run::take(s, bytes, sm, store) {
+    if byte_run::take_run(s, bytes, sm, store) {
         return reply(refusal::NONE, 0, bytes.len());
     }
     // loaded again, so that bytes that are taken there don't pay for all of them

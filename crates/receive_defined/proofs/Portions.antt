@@ -14,19 +14,19 @@ use lib.Seq.{length-take-le, take-at, drop-at}
 use borrow.Author.Tests.{eqb-true, not-true}
 use Rattle.grammar.specs.Bytes.{Bytes, LF}
 use Rattle.grammar.proofs.Basics.{and2}
-use Rattle.grammar.specs.Fields.{bodyLimit}
+use Rattle.grammar.specs.Fields.{bodyMax}
 use Rattle.transfer_step.specs.Names.{toBody}
 use Rattle.phase.specs.Phase.{phaseTransfer}
 use Rattle.transfer_step.specs.declared.Reader.{Reader}
-use Rattle.transfer_step.specs.declared.Outcome.{Outcome}
-use Rattle.transfer_step.specs.declared.Outcome.the-variants.{More, Whole, Malformed, WrongSum, NoRoom}
+use Rattle.transfer_step.specs.declared.ReadOutcome.{ReadOutcome}
+use Rattle.transfer_step.specs.declared.ReadOutcome.the-variants.{More, Whole, Malformed, WrongSum, NoRoom}
 use Rattle.transfer_step.specs.Step.{goesOn, stepOf}
 use Rattle.transfer_read.specs.Feed as transfer
-use Rattle.transfer_read.specs.Feed.{after, headingPut, storePut, roomOf, feedOf}
+use Rattle.transfer_read.specs.Feed.{afterBytes, headingPut, storePut, roomOf, feedOf}
 use Rattle.session_memory.specs.Session.{Session}
 use Rattle.pending.specs.Pending.{waits, overOf}
-use Rattle.receive_defined.specs.Receiving.{Cs, Moved, cs, moved, reading, transferMoved, transferStepOf, byteOf, Run, run, stops, receiveFrom}
-use Rattle.receive_defined.specs.Portion.{roomLeft, transferPortionOf, ofTransfer, counted, portionOf}
+use Rattle.receive_defined.specs.Receiving.{Cs, Moved, cs, moved, reading, transferMoved, transferStepOf, byteOf, Run, runWith, stops, receiveFrom}
+use Rattle.receive_defined.specs.Portion.{roomLeft, transferPortionOf, ofTransfer, ranFor, portionOf}
 
 -- each of the bytes
 abbrev pub Each : (ℕ → Type 0) → Bytes → Type 0
@@ -47,17 +47,17 @@ storeAfter room r b st = storePut (stepOf room r b .put) r b st
 
 room-after : (room : ℕ) (r : Reader) (b : ℕ) (st : Bytes) → roomOf (storeAfter room r b st) ≡ roomOf st
 unfolding storePut
-room-after room r b st = ap (λ (n : ℕ). min n bodyLimit) (go (eqb (stepOf room r b .put) toBody))
+room-after room r b st = ap (λ (n : ℕ). min n bodyMax) (go (eqb (stepOf room r b .put) toBody))
   where
     go : (a : Bool) → length (cond a (set st (r .body) b) st) ≡ length st
     go true = length-set st (r .body) b
     go false = refl
 
 -- a byte with outcome o that leads to r, hd and st; u: the bytes after it, where the reading goes on
-abbrev turn : Outcome → Reader → Bytes → Bytes → transfer.Run → transfer.Run
-turn o r hd st u = cond (goesOn o) (after 1 u) (transfer.run (record { outcome = o; reader = r; count = 1 }) hd st)
+abbrev turn : ReadOutcome → Reader → Bytes → Bytes → transfer.PortionRead → transfer.PortionRead
+turn o r hd st u = cond (goesOn o) (afterBytes 1 u) (transfer.portionRead (record { outcome = o; reader = r; count = 1 }) hd st)
 
-turn-count : (n : ℕ) (o : Outcome) (r : Reader) (hd st : Bytes) (u : transfer.Run) → u .fed .count ≤ n
+turn-count : (n : ℕ) (o : ReadOutcome) (r : Reader) (hd st : Bytes) (u : transfer.PortionRead) → u .fed .count ≤ n
     → (1 ≤ turn o r hd st u .fed .count) × (turn o r hd st u .fed .count ≤ suc n)
 turn-count n More r hd st u h = (omega arith, omega arith)
 turn-count n Whole r hd st u h = (omega arith, omega arith)
@@ -90,7 +90,7 @@ unfolding portionOf transferPortionOf
 portion-count known c b bs = go (ofTransfer c b)
   where
     taken : Bool → Run
-    taken a = cond a (transferPortionOf c (b ∷ bs)) (counted 1 (byteOf known c b))
+    taken a = cond a (transferPortionOf c (b ∷ bs)) (ranFor 1 (byteOf known c b))
 
     go : (a : Bool) → (1 ≤ taken a .count) × (taken a .count ≤ suc (length bs))
     go true =
@@ -105,18 +105,18 @@ portion-count known c b bs = go (ofTransfer c b)
 -- what receive does after a portion of bs, when n bytes were taken before it
 abbrev pub further : Bytes → ℕ → Bytes → Run → Run
 further known n bs p =
-    cond (stops (moved (p .answer) (p .cs))) (run (p .answer) (n + p .count) (p .cs)) (receiveFrom known (p .cs) (n + p .count) (drop (p .count) bs))
+    cond (stops (moved (p .answer) (p .cs))) (runWith (p .answer) (n + p .count) (p .cs)) (receiveFrom known (p .cs) (n + p .count) (drop (p .count) bs))
 
 -- s: the session; pre: the store before the message
 module _ (known : Bytes) (s : Session) (table inbox pre : Bytes) (l : length pre ≡ s .keep .used) (w : waits (s .say) ≡ false) (p : s .now .phase ≡ phaseTransfer) where
   abbrev at : Reader → Bytes → Bytes → Cs
   at r hd st = cs (reading s r hd) table inbox (pre ++ st)
 
-  abbrev to : Outcome → Reader → Bytes → Bytes → Moved
+  abbrev to : ReadOutcome → Reader → Bytes → Bytes → Moved
   to o r hd st = transferMoved o (reading s r hd) table inbox (pre ++ st)
 
-  abbrev left : transfer.Run → Run
-  left u = counted (u .fed .count) (to (u .fed .outcome) (u .fed .reader) (u .heading) (u .store))
+  abbrev left : transfer.PortionRead → Run
+  left u = ranFor (u .fed .count) (to (u .fed .outcome) (u .fed .reader) (u .heading) (u .store))
 
   not-over : (r : Reader) (hd : Bytes) → overOf (reading s r hd) ≡ false
   unfolding overOf
@@ -128,14 +128,14 @@ module _ (known : Bytes) (s : Session) (table inbox pre : Bytes) (l : length pre
   unfolding byteOf transferStepOf
   step-at room r b hd st m = rw (w, p, take-at pre st (s .keep .used) l, drop-at pre st (s .keep .used) l, m)
 
-  further-one : (n b : ℕ) (bs : Bytes) (u : transfer.Run) → further known (suc n) bs (left u) ≡ further known n (b ∷ bs) (left (after 1 u))
+  further-one : (n b : ℕ) (bs : Bytes) (u : transfer.PortionRead) → further known (suc n) bs (left u) ≡ further known n (b ∷ bs) (left (afterBytes 1 u))
   further-one n b bs u =
       let e : suc n + u .fed .count ≡ n + suc (u .fed .count) = omega arith in
       rw (one-add (u .fed .count), ← e)
 
-  turn-law : (n b : ℕ) (bs : Bytes) (u : transfer.Run) (o : Outcome) (r : Reader) (hd st : Bytes)
+  turn-law : (n b : ℕ) (bs : Bytes) (u : transfer.PortionRead) (o : ReadOutcome) (r : Reader) (hd st : Bytes)
       → receiveFrom known (at r hd st) (suc n) bs ≡ further known (suc n) bs (left u)
-      → cond (stops (to o r hd st)) (run (to o r hd st .answer) (suc n) (to o r hd st .cs)) (receiveFrom known (to o r hd st .cs) (suc n) bs)
+      → cond (stops (to o r hd st)) (runWith (to o r hd st .answer) (suc n) (to o r hd st .cs)) (receiveFrom known (to o r hd st .cs) (suc n) bs)
       ≡ further known n (b ∷ bs) (left (turn o r hd st u))
   turn-law n b bs u More r hd st ih = rw (not-over r hd) (ih ∙ further-one n b bs u)
   turn-law n b bs u Whole r hd st ih = rw (add-one n)
@@ -151,11 +151,11 @@ module _ (known : Bytes) (s : Session) (table inbox pre : Bytes) (l : length pre
       let r′ : Reader = stepOf room r b .reader in
       let hd′ : Bytes = headingAfter room r b hd in
       let st′ : Bytes = storeAfter room r b st in
-      ap (λ (v : Moved). cond (stops v) (run (v .answer) (suc n) (v .cs)) (receiveFrom known (v .cs) (suc n) bs)) (step-at room r b hd st m)
+      ap (λ (v : Moved). cond (stops v) (runWith (v .answer) (suc n) (v .cs)) (receiveFrom known (v .cs) (suc n) bs)) (step-at room r b hd st m)
       ∙ turn-law n b bs (feedOf room r′ bs hd′ st′) (stepOf room r b .outcome) r′ hd′ st′ (run-law room r′ bs hd′ st′ (suc n) (room-after room r b st ∙ m))
 
   module _ (P : Cs → Type 0) (B : ℕ → Type 0) (keep : Keeps known P B) where
-    turn-keeps : (u : transfer.Run) (o : Outcome) (r : Reader) (hd st : Bytes) → P (to o r hd st .cs)
+    turn-keeps : (u : transfer.PortionRead) (o : ReadOutcome) (r : Reader) (hd st : Bytes) → P (to o r hd st .cs)
         → (P (at r hd st) → P (left u .cs)) → P (left (turn o r hd st u) .cs)
     turn-keeps u More r hd st g k = k g
     turn-keeps u Whole r hd st g k = g
@@ -224,7 +224,7 @@ module _ (known : Bytes) (c : Cs) (b : ℕ) (bs : Bytes) where
       transfer-law : (n : ℕ) → receiveFrom known c n (b ∷ bs) ≡ further known n (b ∷ bs) (transferPortionOf c (b ∷ bs))
       unfolding receiveFrom transferPortionOf
       transfer-law n =
-          ap (λ (v : Moved). cond (stops v) (run (v .answer) (suc n) (v .cs)) (receiveFrom known (v .cs) (suc n) bs)) flag-down
+          ap (λ (v : Moved). cond (stops v) (runWith (v .answer) (suc n) (v .cs)) (receiveFrom known (v .cs) (suc n) bs)) flag-down
           ∙ run-law known (c .session) (c .table) (c .inbox) keeps cut quiet five (roomLeft c) reader (b ∷ bs) heading free n refl
 
       transfer-keeps : (P : Cs → Type 0) (B : ℕ → Type 0) → Keeps known P B → Each B (b ∷ bs) → P c → P (transferPortionOf c (b ∷ bs) .cs)
@@ -237,7 +237,7 @@ module _ (known : Bytes) (c : Cs) (b : ℕ) (bs : Bytes) where
           (subst (λ (v : Moved). P (v .cs)) first-byte (keep c b g (o .0)))
           (run-keeps known (c .session) (c .table) (c .inbox) keeps cut quiet five P B keep (roomLeft c) r bs hd st (room-after (roomLeft c) reader b free) (o .1))
 
-  byte-law : (n : ℕ) → receiveFrom known c n (b ∷ bs) ≡ further known n (b ∷ bs) (counted 1 (byteOf known c b))
+  byte-law : (n : ℕ) → receiveFrom known c n (b ∷ bs) ≡ further known n (b ∷ bs) (ranFor 1 (byteOf known c b))
   unfolding receiveFrom
   byte-law n = rw (add-one n)
 
@@ -247,7 +247,7 @@ module _ (known : Bytes) (c : Cs) (b : ℕ) (bs : Bytes) where
   portion-law n h = go (ofTransfer c b) refl
     where
       go : (a : Bool) → ofTransfer c b ≡ a
-          → receiveFrom known c n (b ∷ bs) ≡ further known n (b ∷ bs) (cond a (transferPortionOf c (b ∷ bs)) (counted 1 (byteOf known c b)))
+          → receiveFrom known c n (b ∷ bs) ≡ further known n (b ∷ bs) (cond a (transferPortionOf c (b ∷ bs)) (ranFor 1 (byteOf known c b)))
       go true e = transfer-law e h n
       go false e = byte-law n
 
@@ -256,6 +256,6 @@ module _ (known : Bytes) (c : Cs) (b : ℕ) (bs : Bytes) where
   unfolding portionOf
   portion-keeps P B keep h o g = go (ofTransfer c b) refl
     where
-      go : (a : Bool) → ofTransfer c b ≡ a → P (cond a (transferPortionOf c (b ∷ bs)) (counted 1 (byteOf known c b)) .cs)
+      go : (a : Bool) → ofTransfer c b ≡ a → P (cond a (transferPortionOf c (b ∷ bs)) (ranFor 1 (byteOf known c b)) .cs)
       go true e = transfer-keeps e h P B keep o g
       go false e = keep c b g (o .0)

@@ -11,15 +11,15 @@ use Rattle.grammar.specs.Lines.{LineByte, dropped, ends, grows, overruns, lineB
 use Rattle.grammar.specs.Fields.{plain, formNumber}
 use Rattle.buffer.specs.Put.{putBytes}
 use Rattle.layout.specs.Layout.{byteAt, entryAt, entryOut}
-use Rattle.phase.specs.Phase.{phaseTransfer, phaseOver, pieceNone, notOurTurn, ourTurn, noProposal}
+use Rattle.phase.specs.Phase.{phaseTransfer, phaseOver, pieceNone, notOurTurn, ourTurnNow, noProposal}
 use Rattle.places.specs.Places.{formAt, entryLen, proposalLen}
 use Rattle.transfer_step.specs.declared.Reader.{Reader}
-use Rattle.transfer_step.specs.declared.Stepped.{Stepped}
-use Rattle.transfer_step.specs.declared.Outcome.{Outcome}
-use Rattle.transfer_step.specs.declared.Outcome.the-variants.{More, Whole, Malformed, WrongSum, NoRoom}
+use Rattle.transfer_step.specs.declared.ReadStep.{ReadStep}
+use Rattle.transfer_step.specs.declared.ReadOutcome.{ReadOutcome}
+use Rattle.transfer_step.specs.declared.ReadOutcome.the-variants.{More, Whole, Malformed, WrongSum, NoRoom}
 use Rattle.transfer_step.specs.Step.{outcomeNumber, stepOf}
 use Rattle.transfer_read.specs.Feed.{headingPut, storePut, roomOf}
-use Rattle.session_memory.specs.State.{at, held, loadOf, saveOf}
+use Rattle.session_memory.specs.State.{cursorAt, held, loadOf, saveOf}
 use Rattle.session_memory.specs.Setters.{withFirst, withThen, withPos, withKept, withReader, withBytes, withAfterCr, withNow, withSay, withKeep, withReading, withLine, withTally}
 use Rattle.session_memory.specs.declared.Say.{Say}
 use Rattle.session_memory.specs.Session.{Keep}
@@ -70,13 +70,13 @@ afterLine afterCr s = withSay (unsaid (s .say)) (withLine (withAfterCr afterCr (
 abbrev pub spokenOf : Judged → Bool → Bytes → Session
 spokenOf j afterCr table = afterLine afterCr (speakOf (j .speaks) (j .next) table)
 
-pub record Settled : Type 0 where
+pub record LineDone : Type 0 where
   pub answer : ℕ
   pub session : Session
   pub table : Bytes
 
-abbrev pub settled : ℕ → Session → Bytes → Settled
-settled n s table = record { answer = n; session = s; table = table }
+abbrev pub lineDone : ℕ → Session → Bytes → LineDone
+lineDone n s table = record { answer = n; session = s; table = table }
 
 -- The table with what was judged marked in the partner's column.
 abbrev pub markedBy : Judged → Bytes → Bytes
@@ -87,25 +87,25 @@ abbrev pub countedOf : Judged → Bytes → Session → Session
 countedOf j table s = withTally (talliedOf j (s .now) table) s
 
 -- Marks first, then our turn; both are counted.
-unfoldable pub settleOf : Judged → Bool → Bytes → Settled
+unfoldable pub settleOf : Judged → Bool → Bytes → LineDone
 settleOf j afterCr table =
     cond (eqb (j .answer) 0)
-    (settled 0 (countedOf j (markedBy j table) (spokenOf j afterCr (markedBy j table))) (markedBy j table))
-    (settled (j .answer) (refusedOf (j .answer) (j .next)) table)
+    (lineDone 0 (countedOf j (markedBy j table) (spokenOf j afterCr (markedBy j table))) (markedBy j table))
+    (lineDone (j .answer) (refusedOf (j .answer) (j .next)) table)
 
 -- ---------------------------------------------------------------- a byte of a line
 
 abbrev pub longer : Session → ℕ → Session
 longer s b = withLine (withAfterCr false (withBytes (s .line .len + 1) (set (s .line .bytes) (s .line .len) b) (s .line))) s
 
-abbrev pub lineMoved : LineByte → Session → ℕ → Bytes → Bytes → Bytes → ℕ → Settled
-lineMoved dropped s b table known inbox store = settled 0 s table
+abbrev pub lineMoved : LineByte → Session → ℕ → Bytes → Bytes → Bytes → ℕ → LineDone
+lineMoved dropped s b table known inbox store = lineDone 0 s table
 lineMoved ends s b table known inbox store =
     settleOf (judgeOf (take (s .line .len) (s .line .bytes)) s table known inbox store) true table
-lineMoved grows s b table known inbox store = settled 0 (longer s b) table
-lineMoved overruns s b table known inbox store = settled (lineByteNumber overruns) (refusedOf (lineByteNumber overruns) s) table
+lineMoved grows s b table known inbox store = lineDone 0 (longer s b) table
+lineMoved overruns s b table known inbox store = lineDone (lineByteNumber overruns) (refusedOf (lineByteNumber overruns) s) table
 
-unfoldable pub lineStepOf : Session → ℕ → Bytes → Bytes → Bytes → ℕ → Settled
+unfoldable pub lineStepOf : Session → ℕ → Bytes → Bytes → Bytes → ℕ → LineDone
 lineStepOf s b table known inbox store = lineMoved (lineByte false (s .line .len) b) s b table known inbox store
 
 -- ---------------------------------------------------------------- a whole transfer
@@ -117,19 +117,19 @@ keptKeep s = withKept (s .keep .kept + 1) (s .keep .used + s .reading .reader .b
 abbrev pub nextJudged : Session → ℕ → Judged
 nextJudged s i =
     cond (eqb i noProposal)
-    (judged 0 ourTurn noMarks (withKeep (keptKeep s) s))
+    (judged 0 ourTurnNow noMarks (withKeep (keptKeep s) s))
     (judged 0 notOurTurn noMarks (withNow (toTransfer i (s .now)) (withKeep (keptKeep s) (withReading (withReader (readerFor (s .now) i) (s .reading)) s))))
 
 -- "A message is kept at its last byte.": its entry in the inbox
 unfoldable pub keptInbox : Session → Bytes → Bytes
 keptInbox s inbox =
-    putBytes inbox (at (s .keep .kept * entryLen))
+    putBytes inbox (cursorAt (s .keep .kept * entryLen))
     (entryOut (entryAt proposalLen (s .now .block) (s .now .current)) (take (s .reading .reader .head) (s .reading .heading)) (s .keep .used) (s .reading .reader .body))
 
 abbrev pub isPlainAt : Session → Bool
 isPlainAt s = eqb (byteAt (entryAt proposalLen (s .now .block) (s .now .current)) formAt) (formNumber plain)
 
-unfoldable pub keepOf : Session → Bytes → Settled
+unfoldable pub keepOf : Session → Bytes → LineDone
 keepOf s table = settleOf (nextJudged s (nextAccepted (s .say .signs) (s .now .current + 1))) (isPlainAt s) table
 
 -- ---------------------------------------------------------------- a byte of a transfer
@@ -139,7 +139,7 @@ abbrev pub reading : Session → Reader → Bytes → Session
 reading s r heading = withReading (record { reader = r; heading = heading }) (withLine (withAfterCr false (s .line)) s)
 
 -- s: the session with the reading after the byte
-abbrev pub transferMoved : Outcome → Session → Bytes → Bytes → Bytes → Moved
+abbrev pub transferMoved : ReadOutcome → Session → Bytes → Bytes → Bytes → Moved
 transferMoved More s table inbox store = moved 0 (cs s table inbox store)
 transferMoved Whole s table inbox store = moved (keepOf s table .answer) (cs (keepOf s table .session) (keepOf s table .table) (keptInbox s inbox) store)
 transferMoved Malformed s table inbox store = moved (outcomeNumber Malformed) (cs (refusedOf (outcomeNumber Malformed) s) table inbox store)
@@ -147,7 +147,7 @@ transferMoved WrongSum s table inbox store = moved (outcomeNumber WrongSum) (cs 
 transferMoved NoRoom s table inbox store = moved (outcomeNumber NoRoom) (cs (refusedOf (outcomeNumber NoRoom) s) table inbox store)
 
 -- The message under way lies in the store after the bytes that kept messages use.
-abbrev pub transferStep : Cs → ℕ → Stepped → Moved
+abbrev pub transferStep : Cs → ℕ → ReadStep → Moved
 transferStep c b t =
     transferMoved (t .outcome)
     (reading (c .session) (t .reader) (headingPut (t .put) (c .session .reading .reader) b (c .session .reading .heading)))
@@ -181,19 +181,19 @@ pub record Run : Type 0 where
   pub count : ℕ
   pub cs : Cs
 
-abbrev pub run : ℕ → ℕ → Cs → Run
-run answer count c = record { answer = answer; count = count; cs = c }
+abbrev pub runWith : ℕ → ℕ → Cs → Run
+runWith answer count c = record { answer = answer; count = count; cs = c }
 
 abbrev pub stops : Moved → Bool
 stops m = not (eqb (m .answer) 0) || overOf (m .cs .session)
 
 -- n bytes are consumed; "the refused byte is the last one counted"
 unfoldable pub receiveFrom : Bytes → Cs → ℕ → Bytes → Run
-receiveFrom known c n [] = run 0 n c
+receiveFrom known c n [] = runWith 0 n c
 receiveFrom known c n (b ∷ bs) =
     let m = byteOf known c b in
     let r = receiveFrom known (m .cs) (suc n) bs in
-    cond (stops m) (run (m .answer) (suc n) (m .cs)) r
+    cond (stops m) (runWith (m .answer) (suc n) (m .cs)) r
 
 -- The reply and the lent memory after a receive.
 pub record Received : Type 0 where

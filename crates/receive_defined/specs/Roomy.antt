@@ -3,14 +3,14 @@
 use mathlib.Core.Path.{_≡_}
 use Prim.Native.Nat.{ℕ, _+_, _≤_, _<_}
 use Rattle.grammar.specs.Bytes.{wordValues}
-use Rattle.grammar.specs.Fields.{bodyLimit}
+use Rattle.grammar.specs.Fields.{bodyMax}
 use Rattle.mail.specs.Mail.{placeLimit}
 use Rattle.phase.specs.Phase.{phaseTransfer}
 use Rattle.numbers.specs.declared.Numbers.{Numbers}
 
 -- The body under way lies behind those kept.
 pub record BodyFits (s : Numbers) (store : ℕ) : Type 0 where
-  pub short : s .reader .body ≤ bodyLimit
+  pub short : s .reader .body ≤ bodyMax
   pub room : s .keep .used + s .reader .body ≤ store
 
 -- store: how many bytes it has.

@@ -5,7 +5,7 @@ use lib.Dec.{eqb}
 use Rattle.grammar.specs.Bytes.{Bytes}
 use Rattle.phase.specs.Phase.{phaseFs, notOurTurn, stateForwarded, stateDeclined}
 use Rattle.sheet.specs.declared.Sheet.{Sheet}
-use Rattle.sheet.specs.Sheet.{proposedBy, forwardedBy, declinedBy, deferredBy}
+use Rattle.sheet.specs.Sheet.{countProposed, countForwarded, countDeclined, countDeferred}
 use Rattle.session_memory.specs.declared.Tally.{Tally}
 use Rattle.session_memory.specs.Session.{Await}
 use Rattle.tally.specs.Tally.{counted}
@@ -15,8 +15,8 @@ use Rattle.line_effect.specs.Judged.{Judged}
 -- At the end of the partner's turn what was being sent is forwarded; at its FS line so many are declined and so many deferred.
 abbrev pub sheetMarked : Sheet → Marks → Sheet
 sheetMarked h m =
-    cond (eqb (m .state) stateForwarded) (forwardedBy h (m .places .count))
-    (cond (eqb (m .state) stateDeclined) (deferredBy (declinedBy h (m .places .count)) (m .deferred)) h)
+    cond (eqb (m .state) stateForwarded) (countForwarded h (m .places .count))
+    (cond (eqb (m .state) stateDeclined) (countDeferred (countDeclined h (m .places .count)) (m .deferred)) h)
 
 -- "Proposed counts at the received byte that our turn answers": the records on which an FS line is then awaited
 abbrev pub proposesOf : ℕ → Await → ℕ
@@ -29,4 +29,4 @@ recountedOf t m partner table h = cond (eqb (m .places .count) 0) (record { wait
 -- After what was judged, with the table marked; w: what is awaited once it was our turn, if it was.
 unfoldable pub talliedOf : Judged → Await → Bytes → Tally
 talliedOf j w table =
-    recountedOf (j .next .tally) (j .marks) (j .next .keep .terms .partner) table (proposedBy (sheetMarked (j .next .tally .sheet) (j .marks)) (proposesOf (j .speaks) w))
+    recountedOf (j .next .tally) (j .marks) (j .next .keep .terms .partner) table (countProposed (sheetMarked (j .next .tally .sheet) (j .marks)) (proposesOf (j .speaks) w))

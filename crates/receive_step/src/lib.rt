@@ -1,7 +1,7 @@
 // What receive takes at once: a byte of a line, or the run of a transfer's bytes; with its last byte the message is kept.
 use numbers::Numbers;
 use settling::Left;
-use transfer_step::Outcome;
+use transfer_step::ReadOutcome;
 ghost use mathlib.Core.Path.{_≡_};
 ghost use mathlib.Core.List.{[]};
 ghost use lib.ListN.{length};
@@ -9,7 +9,7 @@ ghost use Rattle.grammar.specs.Bytes.{Bytes};
 ghost use Rattle.phase.specs.Phase.{phaseTransfer};
 ghost use Rattle.places.specs.Places.{arraysLen};
 ghost use Rattle.numbers.specs.Whole.{wholeOf};
-ghost use Rattle.receive_defined.specs.Receiving.{cs, lfDropped, run};
+ghost use Rattle.receive_defined.specs.Receiving.{cs, lfDropped, runWith};
 ghost use Rattle.receive_defined.specs.Portion.{transferPortionOf, portionOf};
 ghost use Rattle.receive_defined.specs.Roomy.{Roomy, Underway};
 ghost use Rattle.receive_step.specs.Parts.{taken, ReadOn, Leaves};
@@ -22,32 +22,32 @@ pub struct Taken {
 }
 
 // What bytes of a transfer came to, how many they were, and the numbers with the reading after them.
-pub struct Reached {
-    pub outcome: Outcome,
+pub struct TransferReached {
+    pub outcome: ReadOutcome,
     pub count: usize,
     pub session: Numbers,
 }
 
 // What a transfer's bytes leave, by what they came to. mem: the state's arrays.
-fn moved(outcome: Outcome, s: Numbers, mem: &[u8], table: &mut [u8], inbox: &mut [u8]) -> Left
+fn moved(outcome: ReadOutcome, s: Numbers, mem: &[u8], table: &mut [u8], inbox: &mut [u8]) -> Left
     requires { ⌜ Underway s × (length (now mem) ≡ arraysLen) ⌝ }
     ensures { λ r. ⌜ Leaves outcome s (now (mem .entry)) (now (table .entry)) (now (inbox .entry)) r (now (table .exit)) (now (inbox .exit)) ⌝ }
 {
     match outcome {
-        Outcome::More => Left {
+        ReadOutcome::More => Left {
             answer: refusal::NONE,
             session: s,
         },
-        Outcome::Whole => kept_message::keep_message(s, mem, inbox, table),
-        Outcome::Malformed => Left {
+        ReadOutcome::Whole => kept_message::keep_message(s, mem, inbox, table),
+        ReadOutcome::Malformed => Left {
             answer: refusal::BAD_TRANSFER,
             session: settling::refused(refusal::BAD_TRANSFER, s),
         },
-        Outcome::WrongSum => Left {
+        ReadOutcome::WrongSum => Left {
             answer: refusal::BAD_CHECKSUM,
             session: settling::refused(refusal::BAD_CHECKSUM, s),
         },
-        Outcome::NoRoom => Left {
+        ReadOutcome::NoRoom => Left {
             answer: refusal::STORE_FULL,
             session: settling::refused(refusal::STORE_FULL, s),
         },
@@ -55,7 +55,7 @@ fn moved(outcome: Outcome, s: Numbers, mem: &[u8], table: &mut [u8], inbox: &mut
 }
 
 // A transfer's bytes, read to its end or theirs; the heading goes to its place, the body behind those kept.
-fn read_on(s: Numbers, input: &[u8], mem: &mut [u8], store: &mut [u8]) -> Reached
+fn read_on(s: Numbers, input: &[u8], mem: &mut [u8], store: &mut [u8]) -> TransferReached
     requires { ⌜ Roomy s (length (now store)) × (length (now mem) ≡ arraysLen) ⌝ }
     ensures { λ r. ⌜ ReadOn (cs (wholeOf s (now (mem .entry))) [] [] (now (store .entry))) (now (input .entry)) r (now (mem .exit)) (now (store .exit)) ⌝ }
 {
@@ -72,7 +72,7 @@ fn read_on(s: Numbers, input: &[u8], mem: &mut [u8], store: &mut [u8]) -> Reache
     let mut t = s;
     t.reader = next;
     t.line.after_cr = false;
-    Reached {
+    TransferReached {
         outcome: outcome,
         count: f.count,
         session: t,
@@ -89,7 +89,7 @@ fn transfer_run(
     store: &mut [u8],
 ) -> Taken
     requires { ⌜ Roomy s (length (now store)) × (s .now .phase ≡ phaseTransfer) × (length (now mem) ≡ arraysLen) ⌝ }
-    ensures { λ r. ⌜ run (r .answer) (r .count) (cs (wholeOf (r .session) (now (mem .exit))) (now (table .exit)) (now (inbox .exit)) (now (store .exit))) ≡ transferPortionOf (cs (wholeOf s (now (mem .entry))) (now (table .entry)) (now (inbox .entry)) (now (store .entry))) (now (input .entry)) ⌝ }
+    ensures { λ r. ⌜ runWith (r .answer) (r .count) (cs (wholeOf (r .session) (now (mem .exit))) (now (table .exit)) (now (inbox .exit)) (now (store .exit))) ≡ transferPortionOf (cs (wholeOf s (now (mem .entry))) (now (table .entry)) (now (inbox .entry)) (now (store .entry))) (now (input .entry)) ⌝ }
 {
     let r = read_on(s, input, mem, store);
     let outcome = r.outcome;
@@ -131,7 +131,7 @@ pub fn step(
     store: &mut [u8],
 ) -> Taken
     requires { ⌜ Roomy s (length (now store)) × (length (now mem) ≡ arraysLen) ⌝ }
-    ensures { λ r. ⌜ run (r .answer) (r .count) (cs (wholeOf (r .session) (now (mem .exit))) (now (table .exit)) (now (inbox .exit)) (now (store .exit))) ≡ portionOf (now (known .entry)) (cs (wholeOf s (now (mem .entry))) (now (table .entry)) (now (inbox .entry)) (now (store .entry))) (now (input .entry)) ⌝ }
+    ensures { λ r. ⌜ runWith (r .answer) (r .count) (cs (wholeOf (r .session) (now (mem .exit))) (now (table .exit)) (now (inbox .exit)) (now (store .exit))) ≡ portionOf (now (known .entry)) (cs (wholeOf s (now (mem .entry))) (now (table .entry)) (now (inbox .entry)) (now (store .entry))) (now (input .entry)) ⌝ }
 {
     if input.len() == 0 {
         return taken_as(refusal::NONE, 0, s);

@@ -10,19 +10,19 @@ ghost use lib.ListN.{length};
 ghost use Rattle.places.specs.Places.{recordLen};
 ghost use Rattle.record_text.specs.Texts.{headingPart, bodyIn};
 ghost use Rattle.grammar.specs.Bytes.{byteValues};
-ghost use Rattle.grammar.specs.Fields.{bodyLimit};
+ghost use Rattle.grammar.specs.Fields.{bodyMax};
 
 // A record's form; any other number: plain.
-pub const MESSAGE: u8 = phase::FORM_MESSAGE;
+pub const FORM_MESSAGE: u8 = phase::FORM_MESSAGE;
 
-pub const FILE: u8 = phase::FORM_FILE;
+pub const FORM_FILE: u8 = phase::FORM_FILE;
 
 // The heading of its transfer: the file name for a file, else the title.
 pub fn heading<'a>(r: &[u8], titles: &'a [u8], names: &'a [u8]) -> &'a [u8]
     requires { ⌜ length (now r) ≡ recordLen ⌝ }
     ensures { λ h. ⌜ (now h ≡ headingPart (now (titles .entry)) (now (names .entry)) (now (r .entry))) × (length (now h) ≤ byteValues - 1) ⌝ }
 {
-    if byte(r, places::RECORD_FORM as usize) == FILE {
+    if byte(r, places::RECORD_FORM as usize) == FORM_FILE {
         let start = four(r, places::RECORD_NAME as usize) as usize;
         part(
             names,
@@ -42,7 +42,7 @@ pub fn heading<'a>(r: &[u8], titles: &'a [u8], names: &'a [u8]) -> &'a [u8]
 // Its body.
 pub fn body<'a>(r: &[u8], bodies: &'a [u8]) -> &'a [u8]
     requires { ⌜ length (now r) ≡ recordLen ⌝ }
-    ensures { λ b. ⌜ (now b ≡ bodyIn (now (bodies .entry)) (now (r .entry))) × (length (now b) ≤ bodyLimit) ⌝ }
+    ensures { λ b. ⌜ (now b ≡ bodyIn (now (bodies .entry)) (now (r .entry))) × (length (now b) ≤ bodyMax) ⌝ }
 {
     let start = four(r, places::RECORD_BODY as usize) as usize;
     part(

@@ -63,7 +63,7 @@ fn play_all(session: &mut [u8], inbox: &mut [u8], store: &mut [u8], out: &mut [u
 
 // The whole replay, and the number of the refusal.
 fn replay(session: &mut [u8], inbox: &mut [u8], store: &mut [u8], out: &mut [u8]) -> u8 {
-    let p = capture::start(session, inbox, store, out);
+    let p = capture::play_start(session, inbox, store, out);
     send(out, p.count);
     if p.over {
         return p.refusal;

@@ -10,9 +10,9 @@ use Rattle.session.specs.Session.{kindDue, Awaited, Phase, aLine, leaving, Memo
 use Rattle.session.specs.Calls.{receive, stops, stoppedAt, oneMore, receiveOn}
 use Rattle.session.proofs.Ways as ways
 use Rattle.mail.specs.Mail.{messageOf}
-use Rattle.replayed.specs.Replayed.{emptyShelf, started, fedOne, sentFirst, fed, replayed, oneOf, possible, RefusalsClaim}
+use Rattle.replayed.specs.Replayed.{emptyShelf, started, fedOne, sentFirst, captureFed, replayed, oneOf, possible, RefusalsClaim}
 use Rattle.replayed.proofs.Waiting.{Calm}
-use Rattle.replayed.proofs.Station.{Live, still-live, start-live}
+use Rattle.replayed.proofs.Station.{GoesOnSilent, still-live, start-live}
 
 abbrev Can : ℕ → Type 0
 Can n = oneOf n (0 ∷ possible) ≡ true
@@ -43,7 +43,7 @@ wrong-fine m ln a n (ways.tooMany ff ps q e f) k = refl
 wrong-fine m ln a n (ways.wrongHex ff p ps h e f) k = refl
 wrong-fine m ln a n (ways.noAnswer is e) k = absurd k
 
-line-fine : (m : Memory) (ln : Bytes) (a : Awaited) (o : Outcome) → ways.Judged emptyShelf m ln a o → Calm (aLine a) → Fine o
+line-fine : (m : Memory) (ln : Bytes) (a : Awaited) (o : Outcome) → ways.LineOutcome emptyShelf m ln a o → Calm (aLine a) → Fine o
 line-fine m ln a o (ways.isWrong n w) k = wrong-fine m ln a n w k
 line-fine m ln a o (ways.hearsSid c fs e f) k = tt
 line-fine m ln a o (ways.hearsText e) k = tt
@@ -60,7 +60,7 @@ settled-can : (s : Session) (c : Bool) (o : Outcome) → Fine o → Can (settled
 settled-can s c (refuses n) k = k
 settled-can s c (goesOn p m o) k = refl
 
-why-can : (s : Session) (b n : ℕ) → ways.Why emptyShelf s b n → Live s → Can n
+why-can : (s : Session) (b n : ℕ) → ways.Why emptyShelf s b n → GoesOnSilent s → Can n
 why-can s b n (ways.waits e h) l = absurd (no-both (null (s .out)) (ap null (l .silent)) h)
 why-can s b n (ways.hasLeft w) l = absurd (no-both (ended s) (ap (λ (p : Phase). endedIn p (s .out)) (w .awaited) ∙ ap (λ (o : Bytes). endedIn leaving o) (w .silent)) (l .on))
 why-can s b n (ways.isOver w) l = absurd (no-both (ended s) (ap (λ (p : Phase). endedIn p (s .out)) (w .awaited)) (l .on))
@@ -69,7 +69,7 @@ why-can s b n (ways.unread p ps sc w e) l = refl
 why-can s b n (ways.unsummed p ps sc w e) l = refl
 why-can s b n (ways.unkept p ps sc w e) l = refl
 
-way-can : (s : Session) (b : ℕ) (o : Stepped) → ways.Way emptyShelf s b o → Live s → Can (o .answer)
+way-can : (s : Session) (b : ℕ) (o : Stepped) → ways.Way emptyShelf s b o → GoesOnSilent s → Can (o .answer)
 way-can s b o (ways.isRefused n e w) l = why-can s b n w l
 way-can s b o (ways.dropsLf e) l = refl
 way-can s b o (ways.growsLine a w e f) l = refl
@@ -80,7 +80,7 @@ way-can s b o (ways.readsLast p ps sc h x w e) l =
     let m = keptIn (s .memory) (messageOf p (record { heading = h; body = x })) in
     settled-can s (isPlain (kindDue (s .memory) p)) (nextTransfer emptyShelf ps m) (passes-fine m _ (ways.next-transfer emptyShelf ps m))
 
-one-can : (v : Session) (b : ℕ) → Live v → Can (fedOne v b .refusal)
+one-can : (v : Session) (b : ℕ) → GoesOnSilent v → Can (fedOne v b .refusal)
 unfolding fedOne receive
 one-can v b l = rw (l .on) (go (step emptyShelf v b) (stops (step emptyShelf v b)) (way-can v b _ (ways.way emptyShelf v b) l))
   where
@@ -90,13 +90,13 @@ one-can v b l = rw (l .on) (go (step emptyShelf v b) (stops (step emptyShelf v b
 
 -- ---------------------------------------------------------------- a capture
 
-fed-can : (bs : Bytes) (v : Session) → Live v → Can (fed v bs .refusal)
-unfolding fed
+fed-can : (bs : Bytes) (v : Session) → GoesOnSilent v → Can (captureFed v bs .refusal)
+unfolding captureFed
 fed-can [] v l = refl
 fed-can (b ∷ bs) v l = go (fedOne v b .over) refl (λ y. fed-can bs (fedOne v b .session) (still-live v b l y))
   where
-    go : (c : Bool) → fedOne v b .over ≡ c → (fedOne v b .over ≡ false → Can (fed (fedOne v b .session) bs .refusal))
-        → Can (cond c (fedOne v b) (sentFirst (fedOne v b .sent) (fed (fedOne v b .session) bs)) .refusal)
+    go : (c : Bool) → fedOne v b .over ≡ c → (fedOne v b .over ≡ false → Can (captureFed (fedOne v b .session) bs .refusal))
+        → Can (cond c (fedOne v b) (sentFirst (fedOne v b .sent) (captureFed (fedOne v b .session) bs)) .refusal)
     go true x ih = one-can v b l
     go false x ih = ih x
 

@@ -24,11 +24,11 @@ use Rattle.main_theorem.specs.Calls.{Lent, received, given}
 use Rattle.main_theorem.proofs.Held.{Held}
 use Rattle.main_theorem.proofs.Giving.{give-law}
 use Rattle.main_theorem.proofs.Run.{receive-law, received-over, received-none}
-use Rattle.called_station.specs.Station.{Station, withSession, Answered, heardOf, sentOf}
-use Rattle.capture.specs.Playing.{overOf, Playing, takenOf, stepOf, playOf}
-use Rattle.replayed.specs.Replayed.{emptyShelf, Fed, taken, started, fedOne, sentFirst, fed}
+use Rattle.called_station.specs.Station.{Station, withSession, StationReply, heardOf, sentOf}
+use Rattle.capture.specs.Playing.{playedOut, Playing, takenOf, playStepOf, playOf}
+use Rattle.replayed.specs.Replayed.{emptyShelf, CaptureFed, waitingTaken, started, fedOne, sentFirst, captureFed}
 use Rattle.replayed.specs.Program.{mostWaiting}
-use Rattle.replayed.proofs.Waiting.{Quiet, step-quiet}
+use Rattle.replayed.proofs.Waiting.{QuietSession, step-quiet}
 
 length-zero : (l : Bytes) → length l ≡ 0 → l ≡ []
 length-zero [] e = refl
@@ -37,8 +37,8 @@ length-zero (x ∷ l) e = absurd (omega arith)
 -- ---------------------------------------------------------------- on lists
 
 -- The session goes on, and nothing waits.
-pub record Live (v : Session) : Type 0 where
-  pub quiet : Quiet v
+pub record GoesOnSilent (v : Session) : Type 0 where
+  pub quiet : QuietSession v
   pub silent : v .out ≡ []
   pub on : ended v ≡ false
 
@@ -51,20 +51,20 @@ one-byte v b e = rw e (go (step emptyShelf v b) (stops (step emptyShelf v b)))
     go o true = refl
     go o false = refl
 
-one-quiet : (v : Session) (b : ℕ) → Live v → Quiet (receive emptyShelf v (b ∷ []) .session)
-one-quiet v b l = subst Quiet (sym (one-byte v b (l .on))) (step-quiet v b (l .quiet))
+one-quiet : (v : Session) (b : ℕ) → GoesOnSilent v → QuietSession (receive emptyShelf v (b ∷ []) .session)
+one-quiet v b l = subst QuietSession (sym (one-byte v b (l .on))) (step-quiet v b (l .quiet))
 
-sent-few : (v : Session) (b : ℕ) → Live v → length (fedOne v b .sent) ≤ mostWaiting
+sent-few : (v : Session) (b : ℕ) → GoesOnSilent v → length (fedOne v b .sent) ≤ mostWaiting
 unfolding fedOne
 sent-few v b l = one-quiet v b l .1
 
 -- after a byte that is not the last
-pub still-live : (v : Session) (b : ℕ) → Live v → fedOne v b .over ≡ false → Live (fedOne v b .session)
+pub still-live : (v : Session) (b : ℕ) → GoesOnSilent v → fedOne v b .over ≡ false → GoesOnSilent (fedOne v b .session)
 unfolding fedOne
 still-live v b l e = record { quiet = (one-quiet v b l .0, omega arith); silent = refl; on = e }
 
 -- right after open
-pub start-live : Live (started .session)
+pub start-live : GoesOnSilent (started .session)
 unfolding started
 start-live = record { quiet = (tt, omega arith); silent = refl; on = refl }
 
@@ -83,7 +83,7 @@ module _ (c₀ : Cs) (z : Sizes) (empty : c₀ .table ≡ []) where
   abbrev pub Stands : Station → Session → Type 0
   Stands s v = Held nothing emptyShelf c₀ z (lentOf s) v
 
-  pub record HeardAs (h : Answered) (q : on-lists.Received) : Type 0 where
+  pub record HeardAs (h : StationReply) (q : on-lists.Received) : Type 0 where
     pub answer : h .answer ≡ q .answer
     pub stands : Stands (h .station) (q .session)
 
@@ -98,8 +98,8 @@ module _ (c₀ : Cs) (z : Sizes) (empty : c₀ .table ≡ []) where
             (length-zero (r .table) (t .held .column .table .size ∙ ap length empty)) (t .held);
       }
 
-  over-is : (s : Station) (v : Session) → Stands s v → overOf s ≡ ended v
-  unfolding overOf heardOf
+  over-is : (s : Station) (v : Session) → Stands s v → playedOut s ≡ ended v
+  unfolding playedOut heardOf
   over-is s v h = go (ended v) refl
     where
       go : (c : Bool) → ended v ≡ c → not (eqb (received nothing (lentOf s) [] .reply .answer) 0) ≡ c
@@ -107,7 +107,7 @@ module _ (c₀ : Cs) (z : Sizes) (empty : c₀ .table ≡ []) where
       go false e = ap (λ (r : Received). not (eqb (r .reply .answer) 0)) (received-none nothing emptyShelf c₀ z (lentOf s) v h e)
 
   -- What came of bytes that were played with n bytes in the buffer: what our node sent stands behind them, and the rest of the buffer is as it was.
-  pub record PlayedAs (p : Playing) (out : Bytes) (n : ℕ) (f : Fed) : Type 0 where
+  pub record PlayedAs (p : Playing) (out : Bytes) (n : ℕ) (f : CaptureFed) : Type 0 where
     pub over : p .played .over ≡ f .over
     pub refusal : f .over ≡ true → p .played .refusal ≡ f .refusal
     pub count : p .played .count ≡ n + length (f .sent)
@@ -116,7 +116,7 @@ module _ (c₀ : Cs) (z : Sizes) (empty : c₀ .table ≡ []) where
     pub stands : Stands (p .station) (f .session)
 
   pub taken-law : (answer : ℕ) (s : Station) (v : Session) → Stands s v → (out : Bytes) (n : ℕ) → n + length (v .out) ≤ length out
-      → PlayedAs (takenOf answer s out n) out n (taken answer v)
+      → PlayedAs (takenOf answer s out n) out n (waitingTaken answer v)
   unfolding takenOf sentOf give
   taken-law answer s v h out n k =
       let t = give-law nothing emptyShelf c₀ z (lentOf s) v h out n in
@@ -134,18 +134,18 @@ module _ (c₀ : Cs) (z : Sizes) (empty : c₀ .table ≡ []) where
       }
 
   -- ONE BYTE
-  pub step-law : (p : Playing) (v : Session) (b : ℕ) → Stands (p .station) v → Live v → isByte b ≡ true → p .played .count + mostWaiting ≤ length (p .out)
-      → PlayedAs (stepOf p b) (p .out) (p .played .count) (fedOne v b)
-  unfolding stepOf fedOne
+  pub step-law : (p : Playing) (v : Session) (b : ℕ) → Stands (p .station) v → GoesOnSilent v → isByte b ≡ true → p .played .count + mostWaiting ≤ length (p .out)
+      → PlayedAs (playStepOf p b) (p .out) (p .played .count) (fedOne v b)
+  unfolding playStepOf fedOne
   step-law p v b h l o k =
       let q = receive emptyShelf v (b ∷ []) in
       let t = hear-law (p .station) v h (b ∷ []) (rw o) in
       let w = one-quiet v b l .1 in
-      subst (λ (n : ℕ). PlayedAs (takenOf (heardOf (p .station) (b ∷ []) .answer) (heardOf (p .station) (b ∷ []) .station) (p .out) (p .played .count)) (p .out) (p .played .count) (taken n (q .session))) (t .answer)
+      subst (λ (n : ℕ). PlayedAs (takenOf (heardOf (p .station) (b ∷ []) .answer) (heardOf (p .station) (b ∷ []) .station) (p .out) (p .played .count)) (p .out) (p .played .count) (waitingTaken n (q .session))) (t .answer)
       (taken-law (heardOf (p .station) (b ∷ []) .answer) (heardOf (p .station) (b ∷ []) .station) (q .session) (t .stands) (p .out) (p .played .count) (omega arith))
 
   -- a portion after the first of two
-  module _ (p t : Playing) (out : Bytes) (n : ℕ) (f g : Fed) (h : PlayedAs t out n f) where
+  module _ (p t : Playing) (out : Bytes) (n : ℕ) (f g : CaptureFed) (h : PlayedAs t out n f) where
     room-stays : length (t .out) ≡ length out
     room-stays = ap length (h .buffer) ∙ wrote-length out n (f .sent) (h .within)
 
@@ -162,9 +162,9 @@ module _ (c₀ : Cs) (z : Sizes) (empty : c₀ .table ≡ []) where
         }
 
   -- A PORTION
-  pub play-law : (bs : Bytes) (p : Playing) (v : Session) → Stands (p .station) v → Live v → p .played .over ≡ false → every isByte bs ≡ true
-      → p .played .count + mostWaiting * length bs ≤ length (p .out) → PlayedAs (playOf p bs) (p .out) (p .played .count) (fed v bs) × (fed v bs .over ≡ false → Live (fed v bs .session))
-  unfolding playOf fed
+  pub play-law : (bs : Bytes) (p : Playing) (v : Session) → Stands (p .station) v → GoesOnSilent v → p .played .over ≡ false → every isByte bs ≡ true
+      → p .played .count + mostWaiting * length bs ≤ length (p .out) → PlayedAs (playOf p bs) (p .out) (p .played .count) (captureFed v bs) × (captureFed v bs .over ≡ false → GoesOnSilent (captureFed v bs .session))
+  unfolding playOf captureFed
   play-law [] p v h l e o k = (
     record {
       over = e;
@@ -179,13 +179,13 @@ module _ (c₀ : Cs) (z : Sizes) (empty : c₀ .table ≡ []) where
   play-law (b ∷ bs) p v h l e o k = go (t .played .over) (f .over) (s .over) refl (λ x y m. play-law bs t (f .session) (s .stands) x y (octets .1) m)
     where
       t : Playing
-      t = stepOf p b
+      t = playStepOf p b
 
-      f : Fed
+      f : CaptureFed
       f = fedOne v b
 
-      g : Fed
-      g = fed (f .session) bs
+      g : CaptureFed
+      g = captureFed (f .session) bs
 
       octets : (isByte b ≡ true) × (every isByte bs ≡ true)
       octets = and2 (isByte b) (every isByte bs) o
@@ -193,11 +193,11 @@ module _ (c₀ : Cs) (z : Sizes) (empty : c₀ .table ≡ []) where
       s : PlayedAs t (p .out) (p .played .count) f
       s = step-law p v b h l (octets .0) (omega arith)
 
-      Left : Playing → Fed → Type 0
-      Left x y = PlayedAs x (p .out) (p .played .count) y × (y .over ≡ false → Live (y .session))
+      Left : Playing → CaptureFed → Type 0
+      Left x y = PlayedAs x (p .out) (p .played .count) y × (y .over ≡ false → GoesOnSilent (y .session))
 
       go : (c d : Bool) → c ≡ d → f .over ≡ d
-          → (Live (f .session) → t .played .over ≡ false → t .played .count + mostWaiting * length bs ≤ length (t .out) → PlayedAs (playOf t bs) (t .out) (t .played .count) g × (g .over ≡ false → Live (g .session)))
+          → (GoesOnSilent (f .session) → t .played .over ≡ false → t .played .count + mostWaiting * length bs ≤ length (t .out) → PlayedAs (playOf t bs) (t .out) (t .played .count) g × (g .over ≡ false → GoesOnSilent (g .session)))
           → Left (cond c t (playOf t bs)) (cond d f (sentFirst (f .sent) g))
       go true true x y again = (s, λ n. absurd (no-both (f .over) y n))
       go true false x y again = absurd (no-both true refl x)

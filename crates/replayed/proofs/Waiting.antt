@@ -32,8 +32,8 @@ Calm (awaitsTransfer p ps sc) = Unit {0}
 Calm leaving = Unit {0}
 Calm over = Unit {0}
 
-abbrev pub Quiet : Session → Type 0
-Quiet s = Calm (s .phase) × (length (s .out) ≤ mostWaiting)
+abbrev pub QuietSession : Session → Type 0
+QuietSession s = Calm (s .phase) × (length (s .out) ≤ mostWaiting)
 
 -- ---------------------------------------------------------------- what we say
 
@@ -64,7 +64,7 @@ next-says (p ∷ ps) m = (tt, omega arith)
 
 -- ---------------------------------------------------------------- a byte
 
-line-says : (m : Memory) (ln : Bytes) {a : Awaited} {o : Outcome} → ways.Judged emptyShelf m ln a o → Calm (aLine a) → Says o
+line-says : (m : Memory) (ln : Bytes) {a : Awaited} {o : Outcome} → ways.LineOutcome emptyShelf m ln a o → Calm (aLine a) → Says o
 line-says m ln (ways.isWrong n w) k = tt
 line-says m ln (ways.hearsSid true fs e f) k = (tt, omega arith)
 line-says m ln (ways.hearsSid false fs e f) k = (omega arith, omega arith)
@@ -85,11 +85,11 @@ reason-length n = go (isSilent n) (eqb n badChecksum)
     go false true = omega arith
     go false false = omega arith
 
-settled-quiet : (s : Session) (c : Bool) (o : Outcome) → Says o → Quiet (settled s c o .session)
+settled-quiet : (s : Session) (c : Bool) (o : Outcome) → Says o → QuietSession (settled s c o .session)
 settled-quiet s c (refuses n) k = (tt, reason-length n)
 settled-quiet s c (goesOn p m o) k = k
 
-way-quiet : (s : Session) (b : ℕ) {o : Stepped} → ways.Way emptyShelf s b o → Quiet s → Quiet (o .session)
+way-quiet : (s : Session) (b : ℕ) {o : Stepped} → ways.Way emptyShelf s b o → QuietSession s → QuietSession (o .session)
 way-quiet s b (ways.isRefused n e w) k = (tt, reason-length n)
 way-quiet s b (ways.dropsLf e) k = k
 way-quiet s b (ways.growsLine a w e f) k = k
@@ -101,5 +101,5 @@ way-quiet s b (ways.readsLast p ps sc h x w e) k =
     settled-quiet s (isPlain (kindDue (s .memory) p)) (nextTransfer emptyShelf ps m) (next-says ps m)
 
 -- NEVER MORE THAN 32 BYTES WAIT
-pub step-quiet : (s : Session) (b : ℕ) → Quiet s → Quiet (step emptyShelf s b .session)
+pub step-quiet : (s : Session) (b : ℕ) → QuietSession s → QuietSession (step emptyShelf s b .session)
 step-quiet s b k = way-quiet s b (ways.way emptyShelf s b) k

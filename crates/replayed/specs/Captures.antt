@@ -3,16 +3,16 @@ use mathlib.Core.List.{List, [], _∷_}
 use Rattle.grammar.specs.Bytes.{Bytes}
 use Rattle.grammar.specs.Ascii.{text}
 
-pub record Example : Type 0 where
+pub record CaptureExample : Type 0 where
   pub capture : Bytes
   pub written : Bytes
 
 -- "01's whole session, with the new SID, is compared first."
-abbrev pub whole : Example
-whole = record { capture = text "[TST-1-F$]\rFF\r"; written = text "[NOD-1-B1FH$]\r>\rFQ\rrefusal 0\n" }
+abbrev pub wholeCapture : CaptureExample
+wholeCapture = record { capture = text "[TST-1-F$]\rFF\r"; written = text "[NOD-1-B1FH$]\r>\rFQ\rrefusal 0\n" }
 
-abbrev pub more : List Example
-more =
+abbrev pub moreCaptures : List CaptureExample
+moreCaptures =
     -- nothing was heard
     record { capture = []; written = text "[NOD-1-B1FH$]\r>\rrefusal 0\n" }
     -- what follows our FQ is fed no more

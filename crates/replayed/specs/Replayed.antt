@@ -23,33 +23,33 @@ abbrev pub emptyShelf : Shelf
 emptyShelf = shelfWith [] [] lentPlaces lentBytes
 
 -- What bytes of a capture have come to: what our node has sent, the answer to the last of them, whether the session has ended, and the session then.
-pub record Fed : Type 0 where
+pub record CaptureFed : Type 0 where
   pub sent : Bytes
   pub refusal : ℕ
   pub over : Bool
   pub session : Session
 
 -- "takes all waiting bytes"
-abbrev pub taken : ℕ → Session → Fed
-taken answer s = record { sent = s .out; refusal = answer; over = ended (withOut [] s); session = withOut [] s }
+abbrev pub waitingTaken : ℕ → Session → CaptureFed
+waitingTaken answer s = record { sent = s .out; refusal = answer; over = ended (withOut [] s); session = withOut [] s }
 
 -- ".. after open": the called station
-unfoldable pub started : Fed
-started = taken 0 (opened false [])
+unfoldable pub started : CaptureFed
+started = waitingTaken 0 (opened false [])
 
 -- ".. and after each byte"
-unfoldable pub fedOne : Session → ℕ → Fed
-fedOne s b = taken (receive emptyShelf s (b ∷ []) .answer) (receive emptyShelf s (b ∷ []) .session)
+unfoldable pub fedOne : Session → ℕ → CaptureFed
+fedOne s b = waitingTaken (receive emptyShelf s (b ∷ []) .answer) (receive emptyShelf s (b ∷ []) .session)
 
-abbrev pub sentFirst : Bytes → Fed → Fed
+abbrev pub sentFirst : Bytes → CaptureFed → CaptureFed
 sentFirst o f = record { sent = o ++ f .sent; refusal = f .refusal; over = f .over; session = f .session }
 
 -- "after an end it feeds no more"
-unfoldable pub fed : Session → Bytes → Fed
-fed s [] = record { sent = []; refusal = 0; over = false; session = s }
-fed s (b ∷ bs) =
+unfoldable pub captureFed : Session → Bytes → CaptureFed
+captureFed s [] = record { sent = []; refusal = 0; over = false; session = s }
+captureFed s (b ∷ bs) =
     let f = fedOne s b in
-    let r = fed (f .session) bs in
+    let r = captureFed (f .session) bs in
     cond (f .over) f (sentFirst (f .sent) r)
 
 -- "exactly the bytes our node would send", and the number of the refusal, "with 0 if there was none"
@@ -59,12 +59,12 @@ pub record Replayed : Type 0 where
 
 unfoldable pub replayed : Bytes → Replayed
 replayed capture =
-    let f = fed (started .session) capture in
+    let f = captureFed (started .session) capture in
     record { sent = started .sent ++ f .sent; refusal = f .refusal }
 
 -- ALL THAT THE PROGRAM WRITES: "After those bytes it writes a line `refusal N`"
-unfoldable pub written : Bytes → Bytes
-written capture = replayed capture .sent ++ refusalLine (replayed capture .refusal)
+unfoldable pub programWrites : Bytes → Bytes
+programWrites capture = replayed capture .sent ++ refusalLine (replayed capture .refusal)
 
 -- ---------------------------------------------------------------- the numbers
 

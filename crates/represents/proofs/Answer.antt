@@ -8,17 +8,17 @@ use native.Mathlib.Omega.{arith}
 use lib.Dec.{eqb}
 use lib.ListN.{length}
 use borrow.Author.Tests.{lt-ltb, le-ltb}
-use Rattle.grammar.specs.Bytes.{Bytes, isSome}
+use Rattle.grammar.specs.Bytes.{Bytes, isSome, byteValues}
 use Rattle.grammar.specs.Ascii.{text}
 use Rattle.grammar.specs.Refusals.{badAnswer, lineNotAllowed}
-use Rattle.grammar.specs.Fields.{after}
+use Rattle.grammar.specs.Fields.{afterCapitals}
 use Rattle.grammar.specs.Answers.{Sign, readFs, fsNumber, writeSign, plusSign, minusSign, equalSign}
 use Rattle.grammar.specs.Turns.{blockLimit}
 use Rattle.mail.specs.Mail.{Record, accepted, transfersText}
 use Rattle.session.specs.Choices.{Shelf}
 use Rattle.session.specs.Session as on-lists
 use Rattle.session.specs.Session.{Memory, Outcome, goesOn}
-use Rattle.fs_line.specs.Answers.{answered, answerSigns, signBytes, zeroed}
+use Rattle.fs_line.specs.Answers.{answersRead, answerSigns, signBytes, zeroed}
 use Rattle.fs_line.proofs.Laws.{answer-number}
 use Rattle.phase.specs.Phase.{pieceTransfers, stateDeclined}
 use Rattle.session_memory.specs.State.{held, fiveOf}
@@ -37,19 +37,18 @@ use Rattle.marking.specs.States.{markAll}
 use Rattle.form_closed.specs.Fixed.{Fixed}
 use Rattle.represents.specs.Represents.{Standing, Holds}
 use Rattle.mail.specs.Tally.{declinedOnes, deferredOnes, moreDeclined, moreDeferred}
-use Rattle.sheet.specs.Sheet.{byteRange}
 use Rattle.represents.proofs.Tallied.{none-more}
-use Rattle.represents.proofs.Table.{picked-accepted, picked-declined, picked-deferred, picked-few, zerosAfter}
+use Rattle.represents.proofs.Table.{picked-accepted, picked-declined, picked-deferred, zerosAfter}
 use Rattle.represents.proofs.Says.{first-nothing, then-nothing, sending-text}
 use Rattle.represents.proofs.Parts.{Ready, no-entries}
 use Rattle.represents.proofs.Settle.{holds-answer}
 use Rattle.represents.proofs.Leads.{Leads}
 use Rattle.represents.proofs.Proposals.{no-proposals}
-use Rattle.form_closed.proofs.Laws.{held-length}
+use Rattle.form_closed.proofs.Laws.{held-length, picked-few}
 
 -- the signs of the line
 read-signs : (v n : ℕ) (ln : Bytes) → n ≤ blockLimit → answerSigns v n ln ≡ zeroed (signBytes (readFs v n ln))
-unfolding answerSigns answered
+unfolding answerSigns answersRead
 read-signs v n ln few = ap (λ (c : Bool). zeroed (signBytes (cond c none (readFs v n ln)))) (le-ltb blockLimit n few)
 
 module _ (F : Fixed) (E : Shelf) (c : Cs) (m : Memory) (ready : Ready F E c m) where
@@ -122,7 +121,7 @@ module _ (F : Fixed) (E : Shelf) (c : Cs) (m : Memory) (ready : Ready F E c m) w
           ap (λ (l : List ℕ). moreDeferred (length l) (moreDeclined (length (declinedOnes ss is)) (m .counts))) (sym (picked-deferred is ss z))
           ∙ ap (λ (l : List ℕ). moreDeferred (length (picked equalSign is (zerosAfter ss z))) (moreDeclined (length l) (m .counts))) (sym (picked-declined is ss z))
 
-      few : (c : ℕ) (zs : List ℕ) → length (picked c (held (w .ours)) zs) ≤ byteRange
+      few : (c : ℕ) (zs : List ℕ) → length (picked c (held (w .ours)) zs) ≤ byteValues
       few c zs = omega (arith, picked-few c (held (w .ours)) zs, held-length (w .ours) (ready .now .ours), ready .now .ours .few)
 
   -- THE FS LINE, to as many proposals as we made
@@ -134,7 +133,7 @@ module _ (F : Fixed) (E : Shelf) (c : Cs) (m : Memory) (ready : Ready F E c m) w
       subst (λ (l : ℕ). Lead (answerLine ln s) (on-lists.answerJudged E (held (w .ours)) m (fsNumber v l ln) (readFs v l ln))) (sym many)
       (subst (λ (x : ℕ). As x (answerSigns v n ln) (fsNumber v n ln) (readFs v n ln)) (sym (answer-number v n ln few))
       (subst (λ (x : Bytes). As (fsNumber v n ln) x (fsNumber v n ln) (readFs v n ln)) (sym (read-signs v n ln few))
-      (go (isSome (after (text "FS") ln)) (readFs v n ln))))
+      (go (isSome (afterCapitals (text "FS") ln)) (readFs v n ln))))
     where
       v : ℕ
       v = k .terms .level

@@ -20,9 +20,9 @@ use Rattle.session.specs.Calls as calls
 use Rattle.session_memory.specs.Session.{Session}
 use Rattle.waiting.specs.Waiting.{waitingOf, thenText}
 use Rattle.pending.specs.Pending.{waits, overOf}
-use Rattle.receive_defined.specs.Receiving.{Cs, cs, Moved, moved, lfDropped, refusedOf, lineStepOf, lineByteOf, transferStepOf, byteOf, Run, run, stops, receiveFrom}
+use Rattle.receive_defined.specs.Receiving.{Cs, cs, Moved, moved, lfDropped, refusedOf, lineStepOf, lineByteOf, transferStepOf, byteOf, Run, runWith, stops, receiveFrom}
 use Rattle.form_closed.specs.Fixed.{Fixed}
-use Rattle.represents.specs.Represents.{Says, lineNumber, Awaits, Represents}
+use Rattle.represents.specs.Represents.{StillToGive, lineNumber, Awaits, Represents}
 use Rattle.represents.specs.Frame.{reachOf, Spared}
 use Rattle.represents.specs.Link.{Moving, Receiving}
 use Rattle.represents.proofs.Says.{first-nothing, then-nothing}
@@ -51,7 +51,7 @@ waiting-none s t ti na bo e =
     ∙ then-nothing s t ti na bo ((waits-none (s .say) e) .1)
 
 -- something waits where some bytes are still to be given
-pub waits-law : (F : Fixed) {nt ni ns : ℕ} (c : Cs) (o : Bytes) → Good F nt ni ns c → Says F c o → waits (c .session .say) ≡ not (null o)
+pub waits-law : (F : Fixed) {nt ni ns : ℕ} (c : Cs) (o : Bytes) → Good F nt ni ns c → StillToGive F c o → waits (c .session .say) ≡ not (null o)
 waits-law F c o g h = go (waits (c .session .say)) refl
   where
     all : Bytes
@@ -198,13 +198,13 @@ module _ (F : Fixed) (E : Shelf) {nt ni ns : ℕ} (c : Cs) (x : Moved) (o : on-l
 
   -- a byte, and those after it unless the session is over
   receive-more : (n : ℕ) (r : Run) (q : calls.Received) → (calls.stops o ≡ false → Receiving F E (x .cs) (suc n) r q)
-      → Receiving F E c n (cond (stops x) (run (x .answer) (suc n) (x .cs)) r) (cond (calls.stops o) (calls.stoppedAt o) (calls.oneMore q))
+      → Receiving F E c n (cond (stops x) (runWith (x .answer) (suc n) (x .cs)) r) (cond (calls.stops o) (calls.stoppedAt o) (calls.oneMore q))
   receive-more n r q more =
-      subst (λ (e : Bool). Receiving F E c n (cond e (run (x .answer) (suc n) (x .cs)) r) (cond (calls.stops o) (calls.stoppedAt o) (calls.oneMore q))) (sym same-stops)
+      subst (λ (e : Bool). Receiving F E c n (cond e (runWith (x .answer) (suc n) (x .cs)) r) (cond (calls.stops o) (calls.stoppedAt o) (calls.oneMore q))) (sym same-stops)
       (go (calls.stops o) more)
     where
       go : (e : Bool) → (e ≡ false → Receiving F E (x .cs) (suc n) r q)
-          → Receiving F E c n (cond e (run (x .answer) (suc n) (x .cs)) r) (cond e (calls.stoppedAt o) (calls.oneMore q))
+          → Receiving F E c n (cond e (runWith (x .answer) (suc n) (x .cs)) r) (cond e (calls.stoppedAt o) (calls.oneMore q))
       go true f = record { answer = k .answer; count = omega arith; represents = k .represents; spared = k .spared }
       go false f =
           let m = f refl in

@@ -15,7 +15,7 @@ use Rattle.layout.specs.Layout.{entryAt, messageIn}
 use Rattle.entries.specs.Decoded.{entriesFrom, recordCount, recordsOf, knownBids, headsOf, proposalsOf, placeCount}
 use Rattle.marking.specs.States.{statesOf}
 use Rattle.our_turn.specs.Turn.{chooseOf}
-use Rattle.our_answer.specs.Answers.{shelfOf, answersOf}
+use Rattle.our_answer.specs.Answers.{shelfWithFree, answersOf}
 use Rattle.our_turn.proofs.Block.{chosen-stores}
 use Rattle.our_answer.proofs.Signs.{bids-same, answers-same}
 use Rattle.entries.proofs.Laws.{entries-length, no-bodies}
@@ -50,7 +50,7 @@ answers-law ti na bo t known inbox store E w k tables knowns places bytes used f
     let heads : List Message = headsOf inbox (k .kept) in
     rw five
     (ap (λ (ss : List Sign). fiveOf (map writeSign ss))
-    (answers-same (shelfOf t known inbox (length store - k .used)) E heads (messagesOf inbox store (k .kept))
+    (answers-same (shelfWithFree t known inbox (length store - k .used)) E heads (messagesOf inbox store (k .kept))
     (sym (bids-same ti na bo t 0 (recordCount t)) ∙ ap recordBids tables) knowns places
     (omega (arith, no-bodies inbox 0 (k .kept), used, bytes)) (heads-bids inbox store 0 (k .kept))
     (entries-length (λ (c : Bytes). messageIn c []) entryLen inbox 0 (k .kept) ∙ sym (messages-length inbox store 0 (k .kept)))

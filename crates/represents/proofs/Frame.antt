@@ -7,15 +7,15 @@ use native.Mathlib.Omega.{arith}
 use lib.ListN.{length, take, drop, length-append, take-append-drop}
 use lib.Seq.{drop-drop, take-add, take-at, take-append-add, drop-append-add, drop-append-seam, length-take-le}
 use Rattle.grammar.specs.Bytes.{Bytes}
-use Rattle.buffer.specs.Put.{putBytes}
-use Rattle.buffer.proofs.Laws.{cursor, put-length}
+use Rattle.buffer.specs.Put.{putBytes, cursor}
+use Rattle.buffer.proofs.Laws.{put-length}
 use Rattle.layout.proofs.Places.{put-fits}
-use Rattle.transfer_read.specs.Meaning.{Kept}
+use Rattle.transfer_read.specs.Meaning.{SameOutside}
 
 -- ---------------------------------------------------------------- a part of a buffer
 
 -- of a part from u on, seen in the whole
-pub kept-behind : (u i j : ℕ) (l d : Bytes) → u ≤ length l → Kept i j (drop u l) d → Kept (u + i) (u + j) l (take u l ++ d)
+pub kept-behind : (u i j : ℕ) (l d : Bytes) → u ≤ length l → SameOutside i j (drop u l) d → SameOutside (u + i) (u + j) l (take u l ++ d)
 kept-behind u i j l d h k =
     let n : length (take u l) ≡ u = length-take-le u l h in
     let e = k .on in
@@ -27,7 +27,7 @@ kept-behind u i j l d h k =
     }
 
 -- x written over l from a on
-pub kept-put : (l x : Bytes) (a : ℕ) → a + length x ≤ length l → Kept a (a + length x) l (putBytes l (cursor a 0) x)
+pub kept-put : (l x : Bytes) (a : ℕ) → a + length x ≤ length l → SameOutside a (a + length x) l (putBytes l (cursor a 0) x)
 kept-put l x a h =
     let n : length (take a l) ≡ a = length-take-le a l (omega arith) in
     let e = put-fits l a x h in

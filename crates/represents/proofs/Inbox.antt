@@ -9,7 +9,7 @@ use native.Mathlib.Numerals.{add-one}
 use lib.ListN.{length, take, drop, length-append, length-take, length-drop, length-replicate}
 use lib.Seq.{length-take-le, take-at, take-add}
 use Rattle.grammar.specs.Bytes.{Bytes}
-use Rattle.grammar.specs.Fields.{formNumber, bodyLimit}
+use Rattle.grammar.specs.Fields.{formNumber, bodyMax}
 use Rattle.grammar.specs.Transfers.{partOf}
 use Rattle.mail.specs.Mail.{Message, placeLimit}
 use Rattle.session.specs.Choices.{bodyBytes}
@@ -19,7 +19,7 @@ use Rattle.layout.specs.Layout.{le2, le4, fieldOut, fieldsOut, entryAt, message
 use Rattle.layout.proofs.Places.{part-in, part-kept, part-here}
 use Rattle.layout.proofs.Laws.{withContent, entry-length, message-back, start-back, length-back, inbox-back, inbox-kept}
 use Rattle.form_test.specs.Form.{usedFrom, usedBy}
-use Rattle.session_memory.specs.State.{at}
+use Rattle.session_memory.specs.State.{cursorAt}
 use Rattle.represents.specs.Laid.{bodiesBytes}
 use Rattle.represents.specs.Represents.{messagesFrom, messagesOf, InRow, LaidFrom, Written, Boxed}
 
@@ -118,7 +118,7 @@ pub record Fitting (kept used : ℕ) (inbox store : Bytes) (places n : ℕ) : Ty
   pub size : length inbox ≡ places * entryLen
   pub few : places ≤ placeLimit
   pub free : kept < places
-  pub limit : n ≤ bodyLimit
+  pub limit : n ≤ bodyMax
   pub room : used + n ≤ length store
   pub sum : usedBy inbox kept ≡ used
 
@@ -126,7 +126,7 @@ pub record Fitting (kept used : ℕ) (inbox store : Bytes) (places n : ℕ) : Ty
 module _ (kept used : ℕ) (inbox store : Bytes) (ms : List Message) (places n : ℕ) (g : Fitting kept used inbox store places n)
     (x : Bytes) (l : length x ≡ entryLen) (s : bodyStart x ≡ used) (b : bodyLength x ≡ n) (w : x ≡ messageBytes (messageIn x (take n (drop used store))) used) where
   abbrev grown : Bytes
-  grown = putBytes inbox (at (kept * entryLen)) x
+  grown = putBytes inbox (cursorAt (kept * entryLen)) x
 
   here : entryAt entryLen grown (0 + kept) ≡ x
   here = ap (entryAt entryLen grown) (zero-add kept) ∙ inbox-back inbox places kept x (g .size) (g .free) l
@@ -173,11 +173,11 @@ fields-written c e =
 -- THE ENTRY of a message: c begins with its proposal's fields
 pub box-more : (kept used : ℕ) (inbox store : Bytes) (ms : List Message) (places n : ℕ) (c heading : Bytes) → Fitting kept used inbox store places n
     → fieldsSize ≤ length c → length heading ≤ headingMax → Written c → Boxed kept used inbox store ms
-    → Boxed (kept + 1) (used + n) (putBytes inbox (at (kept * entryLen)) (entryOut c heading used n)) store
+    → Boxed (kept + 1) (used + n) (putBytes inbox (cursorAt (kept * entryLen)) (entryOut c heading used n)) store
     (ms ++ (withContent (proposalIn c) heading (take n (drop used store)) ∷ []))
 box-more kept used inbox store ms places n c heading g fields short e h =
     subst
-    (λ (m : Message). Boxed (kept + 1) (used + n) (putBytes inbox (at (kept * entryLen)) (entryOut c heading used n)) store (ms ++ (m ∷ [])))
+    (λ (m : Message). Boxed (kept + 1) (used + n) (putBytes inbox (cursorAt (kept * entryLen)) (entryOut c heading used n)) store (ms ++ (m ∷ [])))
     read-back
     (box-entry kept used inbox store ms places n g (entryOut c heading used n) (entry-length c heading used n fields)
     (start-back c heading used n fields (omega (arith, h .small, g .free, g .few)))

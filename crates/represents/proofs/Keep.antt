@@ -21,9 +21,9 @@ use Rattle.layout.specs.Layout.{byteAt, entryAt, proposalIn, entryOut}
 use Rattle.layout.proofs.Places.{part-in}
 use Rattle.layout.proofs.Laws.{withContent, entry-length}
 use Rattle.transfer_read.specs.Feed.{roomOf}
-use Rattle.transfer_read.specs.Meaning.{Stands, Kept}
+use Rattle.transfer_read.specs.Meaning.{Stands, SameOutside}
 use Rattle.phase.specs.Phase.{pieceNone, noProposal}
-use Rattle.session_memory.specs.State.{at, held}
+use Rattle.session_memory.specs.State.{cursorAt, held}
 use Rattle.session_memory.specs.Session.{Session}
 use Rattle.session_memory.specs.Setters.{withKeep}
 use Rattle.entries.specs.Decoded.{proposalsOf}
@@ -33,7 +33,7 @@ use Rattle.pending.specs.Pending.{waits}
 use Rattle.receive_defined.specs.Receiving.{Cs, cs, keptKeep, nextJudged, isPlainAt, keepOf}
 use Rattle.form_closed.specs.Fixed.{Fixed}
 use Rattle.represents.specs.Represents.{Awaits, Represents, signsIn, Boxed, Holds}
-use Rattle.represents.proofs.Proposals.{Found, owing, owed-now, next-found, plain-law, written-form, owed-pluses}
+use Rattle.represents.proofs.Proposals.{NextAccepted, owing, owed-now, next-found, plain-law, written-form, owed-pluses}
 use Rattle.represents.proofs.Inbox.{Fitting, box-more}
 use Rattle.represents.proofs.Frame.{kept-put}
 use Rattle.represents.proofs.Says.{first-nothing}
@@ -62,7 +62,7 @@ module _ (F : Fixed) (E : Shelf) {nt ni ns : ℕ} (c : Cs) (g : Good F nt ni ns 
   title = take (u .reading .reader .head) (u .reading .heading)
 
   abbrev inbox′ : Bytes
-  inbox′ = putBytes (c .inbox) (at (u .keep .kept * entryLen)) (entryOut entry title (u .keep .used) n)
+  inbox′ = putBytes (c .inbox) (cursorAt (u .keep .kept * entryLen)) (entryOut entry title (u .keep .used) n)
 
   -- the message that is kept
   abbrev pub kept : Message
@@ -120,9 +120,9 @@ module _ (F : Fixed) (E : Shelf) {nt ni ns : ℕ} (c : Cs) (g : Good F nt ni ns 
   entry-fits : length (entryOut entry title (u .keep .used) n) ≡ entryLen
   entry-fits = entry-length entry title (u .keep .used) n (omega (arith, entry-size))
 
-  pub inbox-kept : Kept (u .keep .kept * entryLen) ((u .keep .kept + 1) * entryLen) (c .inbox) inbox′
+  pub inbox-kept : SameOutside (u .keep .kept * entryLen) ((u .keep .kept + 1) * entryLen) (c .inbox) inbox′
   inbox-kept =
-      subst (λ (j : ℕ). Kept (u .keep .kept * entryLen) j (c .inbox) inbox′) (omega (arith, entry-fits))
+      subst (λ (j : ℕ). SameOutside (u .keep .kept * entryLen) j (c .inbox) inbox′) (omega (arith, entry-fits))
       (kept-put (c .inbox) (entryOut entry title (u .keep .used) n) (u .keep .kept * entryLen) (omega (arith, entry-fits, h .standing .holds .shelved .inbox, places)))
 
   holds″ : Holds F E (keptKeep u) (c .table) inbox′ st m′
@@ -163,7 +163,7 @@ module _ (F : Fixed) (E : Shelf) {nt ni ns : ℕ} (c : Cs) (g : Good F nt ni ns 
   Next j o = Goes F E d (isPlainAt u) (v .memory) j o
 
   next-law : (l : List Proposal) (j : ℕ)
-      → Found (drop (suc (u .now .current)) (held (u .say .signs))) (drop (suc (u .now .current)) (proposalsOf (u .now .block) (u .now .proposals))) (suc (u .now .current)) j l
+      → NextAccepted (drop (suc (u .now .current)) (held (u .say .signs))) (drop (suc (u .now .current)) (proposalsOf (u .now .block) (u .now .proposals))) (suc (u .now .current)) j l
       → Next (nextJudged u j) (on-lists.nextTransfer E l m′)
   next-law [] j found =
       subst (λ (x : ℕ). Next (nextJudged u x) (on-lists.ourTurn E [] false m′)) (sym found)
@@ -182,7 +182,7 @@ module _ (F : Fixed) (E : Shelf) {nt ni ns : ℕ} (c : Cs) (g : Good F nt ni ns 
       (settle-goes F E d (isPlainAt u) (v .memory) (h .tally) (h .standing .holds .states) v (nextJudged u (nextAccepted (u .say .signs) (u .now .current + 1))) (on-lists.nextTransfer E ps m′)
       (subst (λ (x : ℕ). Next (nextJudged u (plusFrom x (drop x (held (u .say .signs))))) (on-lists.nextTransfer E ps m′)) (sym (add-one (u .now .current)))
       (next-law ps (plusFrom (suc (u .now .current)) (drop (suc (u .now .current)) (held (u .say .signs))))
-      (subst (λ (l : List Proposal). Found (drop (suc (u .now .current)) (held (u .say .signs))) (drop (suc (u .now .current)) (proposalsOf (u .now .block) (u .now .proposals))) (suc (u .now .current))
+      (subst (λ (l : List Proposal). NextAccepted (drop (suc (u .now .current)) (held (u .say .signs))) (drop (suc (u .now .current)) (proposalsOf (u .now .block) (u .now .proposals))) (suc (u .now .current))
       (plusFrom (suc (u .now .current)) (drop (suc (u .now .current)) (held (u .say .signs)))) l) (sym rest-owed)
       (next-found (u .say .signs) (u .now .block) (u .now .proposals) (g .say .signs) (under .signs) (suc (u .now .current)))))))
     where

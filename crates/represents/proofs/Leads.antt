@@ -5,7 +5,7 @@ use mathlib.Core.Bool.{Bool, true, false, cond}
 use mathlib.Core.List.{_++_, append-nil}
 use Prim.Native.Nat.{ℕ, _≤_}
 use lib.Dec.{eqb}
-use Rattle.grammar.specs.Bytes.{Bytes}
+use Rattle.grammar.specs.Bytes.{Bytes, byteValues}
 use Rattle.mail.specs.Tally.{Counts}
 use Rattle.session.specs.Choices.{Shelf}
 use Rattle.session.specs.Session as on-lists
@@ -18,16 +18,15 @@ use Rattle.our_turn.specs.Turn.{speakOf}
 use Rattle.our_turn.proofs.Ways.{speak-keep}
 use Rattle.line_effect.specs.Judged.{Judged}
 use Rattle.line_effect.specs.declared.Marks.{Marks}
-use Rattle.receive_defined.specs.Receiving.{Cs, cs, afterLine, spokenOf, Settled, settled, markedBy, countedOf, settleOf, refusedOf}
+use Rattle.receive_defined.specs.Receiving.{Cs, cs, afterLine, spokenOf, LineDone, lineDone, markedBy, countedOf, settleOf, refusedOf}
 use Rattle.receive_defined.specs.Tallied.{talliedOf}
 use Rattle.waiting.specs.Waiting.{waitingOf, firstText, thenText}
-use Rattle.sheet.specs.Sheet.{byteRange}
 use Rattle.session_memory.specs.declared.Tally.{Tally}
 use Rattle.session_memory.specs.Setters.{withTally}
 use Rattle.marking.specs.States.{statesOf, markAll}
 use Rattle.form_closed.specs.Fixed.{Fixed}
 use Rattle.phase.specs.Phase.{pieceNone, notOurTurn}
-use Rattle.represents.specs.Represents.{Entries, Holds, Awaits, Standing, Represents}
+use Rattle.represents.specs.Represents.{BlockWritten, Holds, Awaits, Standing, Represents}
 use Rattle.represents.specs.Tallies.{Tallies, countsMarked}
 use Rattle.represents.proofs.Parts.{refuse-law}
 use Rattle.represents.proofs.Settle.{turnAfter, Settles, our-turn-law}
@@ -35,7 +34,7 @@ use Rattle.represents.proofs.Says.{then-nothing}
 use Rattle.represents.proofs.Tallied.{none-more, Counting, tallied-law}
 
 -- a whole line or transfer settled as the session on lists has it; c: memory with as many messages kept and bytes used as then
-pub record Settling (F : Fixed) (E : Shelf) (c : Cs) (v : Settled) (o : on-lists.Stepped) : Type 0 where
+pub record Settling (F : Fixed) (E : Shelf) (c : Cs) (v : LineDone) (o : on-lists.Stepped) : Type 0 where
   pub answer : v .answer ≡ o .answer
   pub represents : Represents F E (cs (v .session) (v .table) (c .inbox) (c .store)) (o .session)
   pub count : v .session .keep .kept ≡ c .session .keep .kept
@@ -91,9 +90,9 @@ module _ (F : Fixed) (E : Shelf) (c : Cs) (a : Bool) (m₀ : Memory) where
   -- ---------------------------------------------------------------- by the state it leads to
 
   -- s: that state, before our turn if it is; o: what it says first
-  module _ (mk : Marks) (s : Session) (m : Memory) (o : Bytes) (b : Entries (s .now .block) (s .now .proposals))
+  module _ (mk : Marks) (s : Session) (m : Memory) (o : Bytes) (b : BlockWritten (s .now .block) (s .now .proposals))
       (h : Holds F E (s .keep) (marking (s .keep) mk (c .table)) (c .inbox) (c .store) m) (same : carried s ≡ carried (c .session))
-      (counts : m .counts ≡ countsMarked mk (m₀ .counts)) (few : mk .places .count ≤ byteRange) (less : mk .deferred ≤ byteRange)
+      (counts : m .counts ≡ countsMarked mk (m₀ .counts)) (few : mk .places .count ≤ byteValues) (less : mk .deferred ≤ byteValues)
       (said : firstText s ≡ o) where
     abbrev u : Bytes
     u = marking (s .keep) mk (c .table)
@@ -161,7 +160,7 @@ module _ (F : Fixed) (E : Shelf) (c : Cs) (a : Bool) (m₀ : Memory) where
     settle-goes v j (goesOn p m o) h =
         let t = markedBy j (c .table) in
         subst
-        (λ (n : ℕ). Settling F E c (cond (eqb n 0) (settled 0 (countedOf j t (spokenOf j a t)) t) (settled n (refusedOf n (j .next)) (c .table))) (on-lists.settled v a (goesOn p m o)))
+        (λ (n : ℕ). Settling F E c (cond (eqb n 0) (lineDone 0 (countedOf j t (spokenOf j a t)) t) (lineDone n (refusedOf n (j .next)) (c .table))) (on-lists.settled v a (goesOn p m o)))
         (sym (h .0))
         (record {
           answer = refl;
@@ -176,8 +175,8 @@ pub settle-law : (F : Fixed) (E : Shelf) (c : Cs) (a : Bool) (v : on-lists.Sessi
 unfolding settleOf refusedOf
 settle-law F E c a v g j (refuses n) h =
     let t = markedBy j (c .table) in
-    subst (λ (s : Session). Settling F E c (cond (eqb (j .answer) 0) (settled 0 (countedOf j t (spokenOf j a t)) t) (settled (j .answer) (refusedOf (j .answer) s) (c .table))) (on-lists.refused v n)) (sym (h .2))
-    (subst (λ (l : ℕ). Settling F E c (cond (eqb l 0) (settled 0 (countedOf j t (spokenOf j a t)) t) (settled l (refusedOf l (c .session)) (c .table))) (on-lists.refused v n)) (sym (h .0))
-    (subst (λ (x : Bool). Settling F E c (cond x (settled 0 (countedOf j t (spokenOf j a t)) t) (settled n (refusedOf n (c .session)) (c .table))) (on-lists.refused v n)) (sym (h .1))
+    subst (λ (s : Session). Settling F E c (cond (eqb (j .answer) 0) (lineDone 0 (countedOf j t (spokenOf j a t)) t) (lineDone (j .answer) (refusedOf (j .answer) s) (c .table))) (on-lists.refused v n)) (sym (h .2))
+    (subst (λ (l : ℕ). Settling F E c (cond (eqb l 0) (lineDone 0 (countedOf j t (spokenOf j a t)) t) (lineDone l (refusedOf l (c .session)) (c .table))) (on-lists.refused v n)) (sym (h .0))
+    (subst (λ (x : Bool). Settling F E c (cond x (lineDone 0 (countedOf j t (spokenOf j a t)) t) (lineDone n (refusedOf n (c .session)) (c .table))) (on-lists.refused v n)) (sym (h .1))
     (record { answer = refl; represents = refuse-law F E c v n g; count = refl; spent = refl })))
 settle-law F E c a v g j (goesOn p m o) h = settle-goes F E c a (v .memory) (g .tally) (g .standing .holds .states) v j (goesOn p m o) h

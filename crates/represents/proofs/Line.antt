@@ -12,7 +12,7 @@ use borrow.Author.Tests.{ne-eqb, ltb-true}
 use Rattle.grammar.specs.Bytes.{Bytes, byteValues}
 use Rattle.grammar.specs.Refusals.{lineNotAllowed, noForwarding, proposalCount, wrongBlockSum}
 use Rattle.grammar.specs.Fields.{formIs}
-use Rattle.grammar.specs.Sid.{hasFeature, framed, levelInForce, letterF}
+use Rattle.grammar.specs.Sid.{hasFeature, framed, levelOfSid, letterF}
 use Rattle.grammar.specs.Turns.{Proposal, TurnLine, saysFF, saysFQ, endsBlock, notAllowed, proposes, endsSummed, withCr, blockLimit}
 use Rattle.grammar.specs.Answers.{Sign, fsLine, writeSign}
 use Rattle.grammar.specs.Scan.{scanFrom}
@@ -26,7 +26,7 @@ use Rattle.session.specs.Session.{Memory, Phase, Outcome, refuses, goesOn}
 use Rattle.our_line.specs.Lines.{fsText}
 use Rattle.our_line.proofs.Laws.{fs-text}
 use Rattle.layout.specs.Layout.{byteAt, entryAt, proposalIn}
-use Rattle.layout.proofs.Laws.{Fits}
+use Rattle.layout.proofs.Laws.{ProposalFits}
 use Rattle.transfer_step.specs.declared.Reader.{Reader}
 use Rattle.transfer_step.specs.Step.{startOf}
 use Rattle.transfer_read.specs.Feed.{roomOf}
@@ -41,16 +41,16 @@ use Rattle.session_memory.specs.Setters.{withReader, withNow, withSay, withKeep
 use Rattle.session_memory.proofs.Laws.{held-five}
 use Rattle.entries.specs.Decoded.{proposalsOf}
 use Rattle.our_answer.specs.Answers.{answersOf}
-use Rattle.line_effect.specs.Judge.{noMarks, judged, wentOn, refusal, inPhase, toTurn, toTransfer, saysFirst, saysSigns, signOnPiece, sidRead, plusFrom, nextAccepted, readerFor, endLine, summedLine, lineSum, withProposal, proposalLine, ffLine, fqLine, turnRead}
+use Rattle.line_effect.specs.Judge.{noMarks, judged, wentOn, refusal, inPhase, toTurn, toTransfer, saysFirst, saysSigns, signOnPiece, sidTaken, plusFrom, nextAccepted, readerFor, endLine, summedLine, lineSum, withProposal, proposalTaken, ffLine, fqLine, turnRead}
 use Rattle.line_effect.specs.Judge as judge
 use Rattle.line_effect.specs.Judged.{Judged}
 use Rattle.line_effect.specs.declared.Marks.{Marks}
 use Rattle.waiting.specs.Waiting.{firstBy, firstText}
 use Rattle.receive_defined.specs.Receiving.{Cs, cs, afterLine}
 use Rattle.form_closed.specs.Fixed.{Fixed}
-use Rattle.represents.specs.Represents.{Awaits, signsIn, Entries, Holds}
+use Rattle.represents.specs.Represents.{Awaits, signsIn, BlockWritten, Holds}
 use Rattle.represents.proofs.Choices.{answers-law}
-use Rattle.represents.proofs.Proposals.{no-proposals, proposals-length, proposals-more, entries-more, written-form, signs-back, Found, Owing, owing, owed-now, next-found, start-law, stands-fresh, proper-fits}
+use Rattle.represents.proofs.Proposals.{no-proposals, proposals-length, proposals-more, entries-more, written-form, signs-in-back, NextAccepted, Owing, owing, owed-now, next-found, start-law, stands-fresh, proper-fits}
 use Rattle.represents.proofs.Says.{first-nothing}
 use Rattle.represents.proofs.Parts.{Ready, no-entries}
 use Rattle.represents.proofs.Settle.{holds-turn, holds-sid, turnAfter}
@@ -58,8 +58,7 @@ use Rattle.represents.proofs.Leads.{carried, marking, Leads, goes-leads
 use Rattle.form_closed.specs.Facts.{FiveOk}
 use Rattle.form_closed.proofs.Laws.{five-of, signs-octets, held-length}
 use Rattle.mail.specs.Tally.{moreForwarded}
-use Rattle.sheet.specs.Sheet.{byteRange}
-use Rattle.phase.specs.Phase.{phaseCallerSid, phasePrompt, phaseTurn, phaseOver, ourTurn, ourTurnAfterFF, noProposal}
+use Rattle.phase.specs.Phase.{phaseCallerSid, phasePrompt, phaseTurn, phaseOver, ourTurnNow, ourTurnAfterFF, noProposal}
 use Rattle.places.specs.Places.{headingLen, proposalLen}
 use Rattle.represents.specs.Tallies.{countsMarked}
 
@@ -78,7 +77,7 @@ toTransferAt j s = withNow (toTransfer j (s .now)) (withReading (withReader (rea
 
 -- none of its bytes is there
 pub await-transfer : (m : Memory) (s : Session) (t i st : Bytes) (j : ℕ) (p : Proposal) (qs : List Proposal)
-    → Entries (s .now .block) (s .now .proposals) → FiveOk (s .say .signs) → length (s .reading .heading) ≡ headingLen → Owing (s .say .signs) (s .now .block) (s .now .proposals) j p qs
+    → BlockWritten (s .now .block) (s .now .proposals) → FiveOk (s .say .signs) → length (s .reading .heading) ≡ headingLen → Owing (s .say .signs) (s .now .block) (s .now .proposals) j p qs
     → Awaits (cs (toTransferAt j s) t i st) (on-lists.awaitsTransfer p qs (scanFrom (on-lists.kindDue m p)))
 unfolding readerFor
 await-transfer m s t i st j p qs b g heading o =
@@ -117,28 +116,28 @@ module _ (F : Fixed) (E : Shelf) (c : Cs) (m : Memory) (ready : Ready F E c m) w
   abbrev Lead : Judged → Outcome → Type 0
   Lead j o = Leads F E c true m j o
 
-  b : Entries (w .block) (w .proposals)
+  b : BlockWritten (w .block) (w .proposals)
   b = ready .entries
 
   h : Holds F E k t i st m
   h = ready .holds
 
   -- nothing is said
-  pub went-on : (w′ : Await) (k′ : Keep) (p : Phase) (m′ : Memory) → Entries (w′ .block) (w′ .proposals) → Holds F E k′ t i st m′
+  pub went-on : (w′ : Await) (k′ : Keep) (p : Phase) (m′ : Memory) → BlockWritten (w′ .block) (w′ .proposals) → Holds F E k′ t i st m′
       → carried (withKeep k′ s) ≡ carried s → m′ .counts ≡ m .counts → Awaits (cs (afterLine true (withNow w′ (withKeep k′ s))) t i st) p
       → Lead (wentOn (withNow w′ (withKeep k′ s))) (goesOn p m′ [])
   went-on w′ k′ p m′ b′ h′ same counts = goes-quiet F E c true m noMarks (withNow w′ (withKeep k′ s)) m′ [] b′ h′ same counts (omega arith) (omega arith) (first-nothing (withNow w′ (withKeep k′ s)) (ready .first)) p (ready .then)
 
   -- our turn, after o
   speaks : (ff : Bool) (mk : Marks) (y′ : Say) (k′ : Keep) (m′ : Memory) (o : Bytes) → Holds F E k′ (marking k′ mk t) i st m′
-      → carried (withKeep k′ s) ≡ carried s → m′ .counts ≡ countsMarked mk (m .counts) → mk .places .count ≤ byteRange → mk .deferred ≤ byteRange
+      → carried (withKeep k′ s) ≡ carried s → m′ .counts ≡ countsMarked mk (m .counts) → mk .places .count ≤ byteValues → mk .deferred ≤ byteValues
       → firstText (withSay y′ (withKeep k′ s)) ≡ o → Lead (judged 0 (turnAfter ff) mk (withSay y′ (withKeep k′ s))) (on-lists.ourTurn E o ff m′)
   speaks ff mk y′ k′ m′ o h′ same counts few less said =
       let s′ = withSay y′ (withKeep k′ s) in
       goes-leads F E c true m (judged 0 (turnAfter ff) mk s′) (on-lists.ourTurn E o ff m′) (goes-speaking F E c true m mk s′ m′ o b h′ same counts few less said ff)
 
   -- what was being sent is counted as forwarded
-  few : k .sending .count ≤ byteRange
+  few : k .sending .count ≤ byteValues
   few = omega (arith, ready .keep .sending .few)
 
   turn-counts : on-lists.turnMarks m .counts ≡ countsMarked (judge.turnMarks k) (m .counts)
@@ -146,12 +145,12 @@ module _ (F : Fixed) (E : Shelf) (c : Cs) (m : Memory) (ready : Ready F E c m) w
 
   -- ---------------------------------------------------------------- SID and text lines
 
-  pub sid-law : (caller : Bool) → eqb (w .phase) phaseCallerSid ≡ caller → (o : Option (List ℕ)) → Lead (sidRead o s) (on-lists.sidJudged caller m o)
+  pub sid-law : (caller : Bool) → eqb (w .phase) phaseCallerSid ≡ caller → (o : Option (List ℕ)) → Lead (sidTaken o s) (on-lists.sidJudged caller m o)
   sid-law caller e none = (refl, refl, refl)
   sid-law caller e (some fs) = go (hasFeature letterF fs)
     where
       k′ : Keep
-      k′ = judge.withMode (framed fs) (levelInForce fs) k
+      k′ = judge.withMode (framed fs) (levelOfSid fs) k
 
       h′ : Holds F E k′ t i st (on-lists.withSid fs m)
       h′ = holds-sid F E k t i st m h fs
@@ -175,7 +174,7 @@ module _ (F : Fixed) (E : Shelf) (c : Cs) (m : Memory) (ready : Ready F E c m) w
   sign-on-law = refl
 
   pub text-law : w .phase ≡ phasePrompt → (c : Bool)
-      → Lead (cond c (judged 0 ourTurn noMarks (withSay (saysFirst (signOnPiece s) y) s)) (wentOn s)) (on-lists.textJudged E c m)
+      → Lead (cond c (judged 0 ourTurnNow noMarks (withSay (saysFirst (signOnPiece s) y) s)) (wentOn s)) (on-lists.textJudged E c m)
   text-law e true = speaks false noMarks (saysFirst (signOnPiece s) y) k m (on-lists.ourSignOn m) h refl refl (omega arith) (omega arith) sign-on-law
   text-law e false = went-on w k (on-lists.aLine on-lists.awaitsPrompt) m b h refl refl (e, tt)
 
@@ -204,9 +203,9 @@ module _ (F : Fixed) (E : Shelf) (c : Cs) (m : Memory) (ready : Ready F E c m) w
       go zero false = (refl, refl, refl)
       go (suc n) ff = rw (ne-eqb (suc n) 0 (λ e. omega arith)) (refl, refl, refl)
 
-  pub proposal-law : (q : Proposal) → Fits q → w .phase ≡ phaseTurn → (lines raw : Bytes) → w .sum ≡ byteSum lines % byteValues
-      → Lead (proposalLine q (lineSum raw) s) (on-lists.turnJudged E (proposes q) (w .ff) (proposalsOf (w .block) (w .proposals)) lines raw m)
-  unfolding proposalLine
+  pub proposal-law : (q : Proposal) → ProposalFits q → w .phase ≡ phaseTurn → (lines raw : Bytes) → w .sum ≡ byteSum lines % byteValues
+      → Lead (proposalTaken q (lineSum raw) s) (on-lists.turnJudged E (proposes q) (w .ff) (proposalsOf (w .block) (w .proposals)) lines raw m)
+  unfolding proposalTaken
   proposal-law q fits e lines raw z =
       subst
       (λ (n : ℕ). Lead (cond (ltb (w .proposals) blockLimit) (wentOn (withNow (withProposal q (lineSum raw) w) s)) (refusal proposalCount s))
@@ -240,7 +239,7 @@ module _ (F : Fixed) (E : Shelf) (c : Cs) (m : Memory) (ready : Ready F E c m) w
     unfolding firstText
     fs-said u e = ap (λ (z : Say). firstBy (z .first) (withSay z u)) e ∙ ap fsText (held-five (map writeSign ss)) ∙ fs-text ss
 
-    answered-law : (l : List Proposal) (j : ℕ) → Found (held signs) (proposalsOf (w .block) (w .proposals)) 0 j l
+    answered-law : (l : List Proposal) (j : ℕ) → NextAccepted (held signs) (proposalsOf (w .block) (w .proposals)) 0 j l
         → Lead (judge.answered signs j s) (on-lists.answering E ss l (on-lists.turnMarks m))
     answered-law [] j found =
         subst (λ (n : ℕ). Lead (judge.answered signs n s) (on-lists.answering E ss [] (on-lists.turnMarks m))) (sym found)
@@ -274,8 +273,8 @@ module _ (F : Fixed) (E : Shelf) (c : Cs) (m : Memory) (ready : Ready F E c m) w
   all-answered =
       subst (λ (f : Five). Lead (judge.answered f (nextAccepted f 0) s) (on-lists.answered E theirs (on-lists.turnMarks m))) (sym answers-are)
       (answered-law answers one-each (accepted answers theirs) (plusFrom 0 (held (signs answers one-each)))
-      (subst (λ (l : List Proposal). Found (held (signs answers one-each)) theirs 0 (plusFrom 0 (held (signs answers one-each))) l)
-      (ap (λ (bs : List ℕ). accepted (signsIn bs) theirs) (held-five (map writeSign answers)) ∙ ap (λ (ss : List Sign). accepted ss theirs) (signs-back answers))
+      (subst (λ (l : List Proposal). NextAccepted (held (signs answers one-each)) theirs 0 (plusFrom 0 (held (signs answers one-each))) l)
+      (ap (λ (bs : List ℕ). accepted (signsIn bs) theirs) (held-five (map writeSign answers)) ∙ ap (λ (ss : List Sign). accepted ss theirs) (signs-in-back answers))
       (next-found (signs answers one-each) (w .block) (w .proposals) (signs-ok answers one-each) (length-map answers writeSign ∙ one-each) 0)))
 
   pub end-law : (lines raw : Bytes) → Lead (endLine s t (F .known) i (length st)) (on-lists.turnJudged E endsBlock (w .ff) (proposalsOf (w .block) (w .proposals)) lines raw m)

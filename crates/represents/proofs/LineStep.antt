@@ -27,9 +27,9 @@ use Rattle.line_effect.specs.Judge.{commentLine, judgeOf, lineBy, sidLine, text
 use Rattle.line_effect.specs.Judged.{Judged}
 use Rattle.waiting.specs.Waiting.{waitingOf, firstText, thenText}
 use Rattle.pending.specs.Pending.{waits}
-use Rattle.receive_defined.specs.Receiving.{Cs, cs, Settled, longer, lineMoved, lineStepOf, refusedOf}
+use Rattle.receive_defined.specs.Receiving.{Cs, cs, LineDone, longer, lineMoved, lineStepOf, refusedOf}
 use Rattle.form_closed.specs.Fixed.{Fixed}
-use Rattle.represents.specs.Represents.{Says, lineNumber, Awaits, Represents}
+use Rattle.represents.specs.Represents.{StillToGive, lineNumber, Awaits, Represents}
 use Rattle.form_closed.proofs.Waiting.{waits-none}
 use Rattle.represents.proofs.Parts.{Ready, refuse-law}
 use Rattle.represents.proofs.Leads.{Settling, Leads, settle-law}
@@ -54,7 +54,7 @@ awaits-line on-lists.leaving s t i st l h = h
 awaits-line on-lists.over s t i st l h = h
 
 -- what waits does not depend on the line
-says-line : (F : Fixed) (s : Session) (t i st : Bytes) (l : Line) (o : Bytes) → Says F (cs s t i st) o → Says F (cs (withLine l s) t i st) o
+says-line : (F : Fixed) (s : Session) (t i st : Bytes) (l : Line) (o : Bytes) → StillToGive F (cs s t i st) o → StillToGive F (cs (withLine l s) t i st) o
 unfolding waitingOf firstText thenText
 says-line F s t i st l o h = h
 
@@ -149,7 +149,7 @@ module _ (F : Fixed) (E : Shelf) {nt ni ns : ℕ} (c : Cs) (g : Good F nt ni ns 
   line-length : length (v .part) ≡ s .line .len
   line-length = ap length (sym (h .standing .part)) ∙ length-take-le (s .line .len) (s .line .bytes) (omega (arith, g .line .len, g .line .size))
 
-  abbrev Moves : Settled → on-lists.Stepped → Type 0
+  abbrev Moves : LineDone → on-lists.Stepped → Type 0
   Moves x o = Settling F E c x o
 
   byte-moves : (b : ℕ) (a : on-lists.Awaited) → v .phase ≡ on-lists.aLine a → (l : LineByte) → RoomIf l

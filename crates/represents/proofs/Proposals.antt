@@ -24,15 +24,15 @@ use Rattle.buffer.specs.Put.{putBytes}
 use Rattle.places.specs.Places.{proposalLen, headingLen, blockLen, formAt}
 use Rattle.layout.specs.Layout.{byteAt, entryAt, proposalBytes, proposalIn}
 use Rattle.layout.proofs.Places.{entry-written}
-use Rattle.layout.proofs.Laws.{Fits, proposal-length, proposal-back, block-kept}
+use Rattle.layout.proofs.Laws.{ProposalFits, proposal-length, proposal-laid-back, block-kept}
 use Rattle.transfer_step.specs.Step.{startOf}
 use Rattle.transfer_read.specs.Meaning.{numbersOf, Stands}
 use Rattle.entries.specs.Decoded.{entries, proposalsOf}
 use Rattle.entries.proofs.Laws.{entries-length, entries-at}
 use Rattle.line_effect.specs.Judge.{plusFrom}
-use Rattle.session_memory.specs.State.{at, held}
+use Rattle.session_memory.specs.State.{cursorAt, held}
 use Rattle.session_memory.specs.declared.Five.{Five}
-use Rattle.represents.specs.Represents.{Written, Entries, signsIn}
+use Rattle.represents.specs.Represents.{Written, BlockWritten, signsIn}
 use Rattle.form_closed.specs.Facts.{FiveOk}
 use Rattle.form_closed.proofs.Laws.{held-length}
 use Rattle.entries.proofs.Laws.{entries-same}
@@ -42,7 +42,7 @@ use Rattle.phase.specs.Phase.{noProposal}
 
 -- ---------------------------------------------------------------- a proposal as read fits its entry
 
-pub proper-fits : (md : Bool) (p : Proposal) → Proper md p → Fits p
+pub proper-fits : (md : Bool) (p : Proposal) → Proper md p → ProposalFits p
 proper-fits md p h =
     record {
       from = call-field (p .from) (h .from) .most;
@@ -69,7 +69,7 @@ form-small file = omega arith
 
 module _ (block : Bytes) (n : ℕ) (size : length block ≡ blockLen) (few : n < blockLimit) (q : Proposal) where
   abbrev more : Bytes
-  more = putBytes block (at (n * proposalLen)) (proposalBytes q)
+  more = putBytes block (cursorAt (n * proposalLen)) (proposalBytes q)
 
   long : length (proposalBytes q) ≡ proposalLen
   long = proposal-length (formNumber (q .form)) (q .type) (q .from) (q .at) (q .to) (q .bid) (q .size)
@@ -80,19 +80,19 @@ module _ (block : Bytes) (n : ℕ) (size : length block ≡ blockLen) (few : n <
   other : (j : ℕ) → j < n → entryAt proposalLen more j ≡ entryAt proposalLen block j
   other j h = block-kept block n size few (proposalBytes q) long j (λ e. omega arith)
 
-  pub proposals-more : Fits q → proposalsOf more (n + 1) ≡ proposalsOf block n ++ (q ∷ [])
+  pub proposals-more : ProposalFits q → proposalsOf more (n + 1) ≡ proposalsOf block n ++ (q ∷ [])
   unfolding proposalsOf
   proposals-more fits =
       ap (entries proposalIn proposalLen more) (add-one n) ∙ entries-snoc proposalIn proposalLen more n
       ∙ ap (λ (ps : List Proposal). ps ++ (proposalIn (entryAt proposalLen more n) ∷ []))
       (entries-same proposalIn proposalIn proposalLen more block 0 n (λ j h. ap proposalIn (other j (omega arith))))
-      ∙ ap (λ (p : Proposal). entries proposalIn proposalLen block n ++ (p ∷ [])) (ap proposalIn here ∙ proposal-back q fits)
+      ∙ ap (λ (p : Proposal). entries proposalIn proposalLen block n ++ (p ∷ [])) (ap proposalIn here ∙ proposal-laid-back q fits)
 
-  pub entries-more : Fits q → Entries block n → Entries more (n + 1)
+  pub entries-more : ProposalFits q → BlockWritten block n → BlockWritten more (n + 1)
   entries-more fits h j k = go (eqb j n) refl
     where
       go : (c : Bool) → eqb j n ≡ c → Written (entryAt proposalLen more j)
-      go true e = subst (λ (i : ℕ). Written (entryAt proposalLen more i)) (sym (eqb-true j n e)) (subst Written (sym here) (ap proposalBytes (proposal-back q fits)))
+      go true e = subst (λ (i : ℕ). Written (entryAt proposalLen more i)) (sym (eqb-true j n e)) (subst Written (sym here) (ap proposalBytes (proposal-laid-back q fits)))
       go false e =
           let ne = eqb-false j n e in
           let l : j < n = omega arith in
@@ -104,11 +104,11 @@ written-form {c} e = subst (λ (x : Bytes). byteAt x formAt ≤ formNumber file)
 
 -- ---------------------------------------------------------------- the next proposal that we accept
 
-pub signs-back : (ss : List Sign) → signsIn (map writeSign ss) ≡ ss
-signs-back [] = refl
-signs-back (accept ∷ ss) = ap (λ (l : List Sign). accept ∷ l) (signs-back ss)
-signs-back (decline ∷ ss) = ap (λ (l : List Sign). decline ∷ l) (signs-back ss)
-signs-back (defer ∷ ss) = ap (λ (l : List Sign). defer ∷ l) (signs-back ss)
+pub signs-in-back : (ss : List Sign) → signsIn (map writeSign ss) ≡ ss
+signs-in-back [] = refl
+signs-in-back (accept ∷ ss) = ap (λ (l : List Sign). accept ∷ l) (signs-in-back ss)
+signs-in-back (decline ∷ ss) = ap (λ (l : List Sign). decline ∷ l) (signs-in-back ss)
+signs-in-back (defer ∷ ss) = ap (λ (l : List Sign). defer ∷ l) (signs-in-back ss)
 
 -- as many are accepted as there are `+`
 pub accepted-pluses : {A : Type 0} (bs : List ℕ) (xs : List A) → length bs ≡ length xs → length (accepted (signsIn bs) xs) ≡ pluses bs
@@ -130,24 +130,24 @@ pub record Ahead (bs : List ℕ) (ps : List Proposal) (k i : ℕ) (p : Proposal)
   pub plus : getD bs steps 0 ≡ plusSign
   pub owed : accepted (signsIn (drop steps bs)) (drop steps ps) ≡ p ∷ qs
 
-abbrev pub Found : List ℕ → List Proposal → ℕ → ℕ → List Proposal → Type 0
-Found bs ps k i [] = i ≡ noProposal
-Found bs ps k i (p ∷ qs) = Ahead bs ps k i p qs
+abbrev pub NextAccepted : List ℕ → List Proposal → ℕ → ℕ → List Proposal → Type 0
+NextAccepted bs ps k i [] = i ≡ noProposal
+NextAccepted bs ps k i (p ∷ qs) = Ahead bs ps k i p qs
 
-found-later : (b : ℕ) (bs : List ℕ) (q : Proposal) (ps : List Proposal) (k i : ℕ) (l : List Proposal) → Found bs ps (suc k) i l → Found (b ∷ bs) (q ∷ ps) k i l
+found-later : (b : ℕ) (bs : List ℕ) (q : Proposal) (ps : List Proposal) (k i : ℕ) (l : List Proposal) → NextAccepted bs ps (suc k) i l → NextAccepted (b ∷ bs) (q ∷ ps) k i l
 found-later b bs q ps k i [] h = h
 found-later b bs q ps k i (p ∷ qs) h =
     let e = h .place in
     let w = h .within in
     record { steps = suc (h .steps); place = omega arith; within = omega arith; plus = h .plus; owed = h .owed }
 
-pub plus-law : (bs : List ℕ) (ps : List Proposal) (k : ℕ) → length bs ≡ length ps → Found bs ps k (plusFrom k bs) (accepted (signsIn bs) ps)
+pub plus-law : (bs : List ℕ) (ps : List Proposal) (k : ℕ) → length bs ≡ length ps → NextAccepted bs ps k (plusFrom k bs) (accepted (signsIn bs) ps)
 plus-law [] ps k e = refl
 plus-law (b ∷ bs) [] k e = absurd (omega arith)
 plus-law (b ∷ bs) (q ∷ ps) k e = go (eqb b plusSign) (eqb b minusSign) refl (plus-law bs ps (suc k) (omega arith))
   where
-    go : (c d : Bool) → eqb b plusSign ≡ c → Found bs ps (suc k) (plusFrom (suc k) bs) (accepted (signsIn bs) ps)
-        → Found (b ∷ bs) (q ∷ ps) k (cond c k (plusFrom (suc k) bs)) (accepted (cond c accept (cond d decline defer) ∷ signsIn bs) (q ∷ ps))
+    go : (c d : Bool) → eqb b plusSign ≡ c → NextAccepted bs ps (suc k) (plusFrom (suc k) bs) (accepted (signsIn bs) ps)
+        → NextAccepted (b ∷ bs) (q ∷ ps) k (cond c k (plusFrom (suc k) bs)) (accepted (cond c accept (cond d decline defer) ∷ signsIn bs) (q ∷ ps))
     go true d f h = record { steps = 0; place = omega arith; within = omega arith; plus = eqb-true b plusSign f; owed = rw f }
     go false true f h = found-later b bs q ps k (plusFrom (suc k) bs) (accepted (signsIn bs) ps) h
     go false false f h = found-later b bs q ps k (plusFrom (suc k) bs) (accepted (signsIn bs) ps) h
@@ -202,7 +202,7 @@ module _ (signs : Five) (block : Bytes) (n : ℕ) (g : FiveOk signs) (same : sig
         entries-at proposalIn proposalLen block n i none h,
       )
 
-  pub next-found : (i : ℕ) → Found (drop i (held signs)) (drop i (proposalsOf block n)) i (plusFrom i (drop i (held signs)))
+  pub next-found : (i : ℕ) → NextAccepted (drop i (held signs)) (drop i (proposalsOf block n)) i (plusFrom i (drop i (held signs)))
       (accepted (signsIn (drop i (held signs))) (drop i (proposalsOf block n)))
   next-found i =
       plus-law (drop i (held signs)) (drop i (proposalsOf block n)) i

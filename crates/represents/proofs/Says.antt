@@ -12,7 +12,7 @@ use Rattle.mail.specs.Mail.{Record, proposalOf, recordAt, transferOf, turnText,
 use Rattle.entries.specs.Decoded.{recordsOf}
 use Rattle.session_memory.specs.Session.{Session}
 use Rattle.phase.specs.Phase.{pieceNone, pieceProtocolError, pieceChecksumError}
-use Rattle.waiting.specs.Waiting.{proposalAt, blockText, sendingText, firstBy, firstText, thenBy, thenText}
+use Rattle.waiting.specs.Waiting.{tableProposal, blockText, sendingText, firstBy, firstText, thenBy, thenText}
 use Rattle.pending.specs.Pending.{errorPiece}
 use Rattle.marking.specs.States.{Whole}
 use Rattle.represents.proofs.Table.{record-at}
@@ -42,10 +42,10 @@ error-piece n s = go (isSilent n) (eqb n badChecksum)
 -- ---------------------------------------------------------------- from the table
 
 module _ (ti na bo t : Bytes) (w : Whole t) where
-  proposals-text : (is : List ℕ) → map (proposalAt t) is ≡ map (λ (k : ℕ). proposalOf (recordAt (recordsOf ti na bo t) k)) is
+  proposals-text : (is : List ℕ) → map (tableProposal t) is ≡ map (λ (k : ℕ). proposalOf (recordAt (recordsOf ti na bo t) k)) is
   proposals-text [] = refl
   proposals-text (i ∷ is) =
-      ap (λ (r : Record). proposalOf r ∷ map (proposalAt t) is) (sym (record-at ti na bo t i w))
+      ap (λ (r : Record). proposalOf r ∷ map (tableProposal t) is) (sym (record-at ti na bo t i w))
       ∙ ap (λ (ps : List Proposal). proposalOf (recordAt (recordsOf ti na bo t) i) ∷ ps) (proposals-text is)
 
   pub block-text : (is : List ℕ) → blockText t is ≡ turnText (map (λ (k : ℕ). proposalOf (recordAt (recordsOf ti na bo t) k)) is)

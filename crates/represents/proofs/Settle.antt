@@ -8,7 +8,7 @@ use lib.Dec.{eqb}
 use lib.ListN.{length, take}
 use borrow.Author.Tests.{ne-eqb}
 use Rattle.grammar.specs.Bytes.{Bytes}
-use Rattle.grammar.specs.Sid.{framed, levelInForce}
+use Rattle.grammar.specs.Sid.{framed, levelOfSid}
 use Rattle.grammar.specs.Answers.{Sign, plusSign, minusSign, equalSign}
 use Rattle.mail.specs.Mail.{Record, proposalOf, recordAt, turnText, accepted, marked, declined}
 use Rattle.mail.specs.Tally.{Counts, moreProposed}
@@ -32,12 +32,12 @@ use Rattle.waiting.specs.Waiting.{waitingOf, firstText, thenText, blockText}
 use Rattle.receive_defined.specs.Receiving.{cs, afterLine}
 use Rattle.marking.specs.States.{markAll}
 use Rattle.form_closed.specs.Fixed.{Fixed}
-use Rattle.represents.specs.Represents.{Standing, Entries, Shelved, Holds}
+use Rattle.represents.specs.Represents.{Standing, BlockWritten, Shelved, Holds}
 use Rattle.marking.proofs.States.{records-mark, whole-mark, states-marked}
 use Rattle.represents.proofs.Table.{states-declined, picked-accepted, flags-deferred, zerosAfter}
 use Rattle.represents.proofs.Choices.{choose-law}
 use Rattle.represents.proofs.Says.{block-text}
-use Rattle.phase.specs.Phase.{notOurTurn, ourTurn, ourTurnAfterFF, pieceBlock, stateForwarded, stateDeclined}
+use Rattle.phase.specs.Phase.{notOurTurn, ourTurnNow, ourTurnAfterFF, pieceBlock, stateForwarded, stateDeclined}
 use Rattle.receive_defined.specs.Tallied.{proposesOf}
 use Rattle.represents.proofs.Tallied.{none-more}
 use Rattle.represents.proofs.Parts.{no-entries}
@@ -76,7 +76,7 @@ module _ (F : Fixed) (E : Shelf) (k : Keep) (t i st : Bytes) (m : Memory) (h : H
       record { shelved = h .shelved; boxed = h .boxed; framed = h .framed; terms = h .terms; states = h .states; sending = h .sending; flags = h .flags }
 
   -- what the partner's SID settles
-  pub holds-sid : (fs : List ℕ) → Holds F E (judge.withMode (framed fs) (levelInForce fs) k) t i st (on-lists.withSid fs m)
+  pub holds-sid : (fs : List ℕ) → Holds F E (judge.withMode (framed fs) (levelOfSid fs) k) t i st (on-lists.withSid fs m)
   holds-sid fs = record { shelved = h .shelved; boxed = h .boxed; framed = refl; terms = record { level = refl }; states = h .states; sending = h .sending; flags = h .flags }
 
   -- the partner's signs on our records at these places
@@ -102,7 +102,7 @@ module _ (F : Fixed) (E : Shelf) (k : Keep) (t i st : Bytes) (m : Memory) (h : H
 
 -- Our turn; ff: the partner's was FF.
 abbrev pub turnAfter : Bool → ℕ
-turnAfter ff = cond ff ourTurnAfterFF ourTurn
+turnAfter ff = cond ff ourTurnAfterFF ourTurnNow
 
 is-ours : (ff : Bool) → eqb (turnAfter ff) notOurTurn ≡ false
 is-ours true = refl
@@ -112,9 +112,9 @@ module _ (F : Fixed) (E : Shelf) (a : Bool) (i st : Bytes) where
   -- what is left stands for the outcome, which is no refusal; x: the counts before our turn
   abbrev pub Settles : Counts → Session → Bytes → Outcome → Type 0
   Settles x n t (refuses l) = ⊥
-  Settles x n t (goesOn p m o) = Standing F E (cs (afterLine a n) t i st) (on-lists.between p a o m) × (m .counts ≡ moreProposed (proposesOf ourTurn (n .now)) x)
+  Settles x n t (goesOn p m o) = Standing F E (cs (afterLine a n) t i st) (on-lists.between p a o m) × (m .counts ≡ moreProposed (proposesOf ourTurnNow (n .now)) x)
 
-  module _ (s : Session) (t : Bytes) (m : Memory) (b : Entries (s .now .block) (s .now .proposals)) (h : Holds F E (s .keep) t i st m) where
+  module _ (s : Session) (t : Bytes) (m : Memory) (b : BlockWritten (s .now .block) (s .now .proposals)) (h : Holds F E (s .keep) t i st m) where
     abbrev first : Bytes
     first = firstText s
 

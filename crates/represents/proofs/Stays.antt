@@ -9,9 +9,9 @@ use borrow.Author.Tests.{eqb-true}
 use Rattle.grammar.specs.Bytes.{Bytes, LF}
 use Rattle.grammar.proofs.Basics.{no-both, by-cond}
 use Rattle.transfer_step.specs.declared.Reader.{Reader}
-use Rattle.transfer_step.specs.declared.Stepped.{Stepped}
-use Rattle.transfer_step.specs.declared.Outcome.{Outcome}
-use Rattle.transfer_step.specs.declared.Outcome.the-variants.{More, Whole, Malformed, WrongSum, NoRoom}
+use Rattle.transfer_step.specs.declared.ReadStep.{ReadStep}
+use Rattle.transfer_step.specs.declared.ReadOutcome.{ReadOutcome}
+use Rattle.transfer_step.specs.declared.ReadOutcome.the-variants.{More, Whole, Malformed, WrongSum, NoRoom}
 use Rattle.transfer_step.specs.Step.{goesOn, stepOf}
 use Rattle.transfer_step.proofs.Ways.{by-ways}
 use Rattle.transfer_read.specs.Feed.{headingPut, storePut, roomOf}
@@ -23,7 +23,7 @@ use Rattle.phase.specs.Phase.{phaseTransfer}
 -- only a byte at which the reading goes on is put anywhere
 put-none : (room : ℕ) (r : Reader) (b : ℕ) → goesOn (stepOf room r b .outcome) ≡ false → stepOf room r b .put ≡ 0
 put-none room r b =
-    by-ways room r b (λ (t : Stepped). goesOn (t .outcome) ≡ false → t .put ≡ 0)
+    by-ways room r b (λ (t : ReadStep). goesOn (t .outcome) ≡ false → t .put ≡ 0)
     (record {
       ends = λ o e. refl;
       skips = λ e. refl;
@@ -63,7 +63,7 @@ module _ (c : Cs) (b : ℕ) where
       five : c .session .now .phase ≡ phaseTransfer
       five = eqb-true (c .session .now .phase) phaseTransfer f
 
-      at : (o : Outcome) (p : ℕ) (r : Reader) → (goesOn o ≡ false → p ≡ 0)
+      at : (o : ReadOutcome) (p : ℕ) (r : Reader) → (goesOn o ≡ false → p ≡ 0)
           → stops (transferMoved o (reading (c .session) r (headingPut p (c .session .reading .reader) b (c .session .reading .heading))) (c .table) (c .inbox) (stored p)) ≡ true
           → transferMoved o (reading (c .session) r (headingPut p (c .session .reading .reader) b (c .session .reading .heading))) (c .table) (c .inbox) (stored p) .cs .store ≡ c .store
       at More p r w e =
@@ -73,7 +73,7 @@ module _ (c : Cs) (b : ℕ) where
       at WrongSum p r w e = put-nowhere p (w refl)
       at NoRoom p r w e = put-nowhere p (w refl)
 
-      go : (t : Stepped) → (goesOn (t .outcome) ≡ false → t .put ≡ 0) → stops (transferStep c b t) ≡ true → transferStep c b t .cs .store ≡ c .store
+      go : (t : ReadStep) → (goesOn (t .outcome) ≡ false → t .put ≡ 0) → stops (transferStep c b t) ≡ true → transferStep c b t .cs .store ≡ c .store
       go t w e = at (t .outcome) (t .put) (t .reader) w e
 
   -- any byte

@@ -59,16 +59,6 @@ picked-deferred (i ∷ is) (accept ∷ ss) k = picked-deferred is ss k
 picked-deferred (i ∷ is) (decline ∷ ss) k = picked-deferred is ss k
 picked-deferred (i ∷ is) (defer ∷ ss) k = ap (λ (l : List ℕ). i ∷ l) (picked-deferred is ss k)
 
--- no more than there are
-pub picked-few : (c : ℕ) (is ss : List ℕ) → length (picked c is ss) ≤ length is
-picked-few c [] ss = omega arith
-picked-few c (i ∷ is) [] = omega arith
-picked-few c (i ∷ is) (s ∷ ss) = go (eqb s c) (picked-few c is ss)
-  where
-    go : (b : Bool) → length (picked c is ss) ≤ length is → length (cond b (i ∷ picked c is ss) (picked c is ss)) ≤ suc (length is)
-    go true h = omega arith
-    go false h = omega arith
-
 pub states-declined : (p : ℕ) → p < partners → (is : List ℕ) (ss : List Sign) (k : ℕ) (t : Bytes) → Whole t
     → statesOf p (markAll p (picked minusSign is (zerosAfter ss k)) stateDeclined t) ≡ declined is ss (statesOf p t)
 states-declined p b [] ss k t w = refl

@@ -8,20 +8,20 @@ use native.Mathlib.Nat.{add-zero}
 use lib.Dec.{eqb}
 use lib.ListN.{take}
 use borrow.Author.Tests.{eqb-true}
-use Rattle.grammar.specs.Bytes.{Bytes}
+use Rattle.grammar.specs.Bytes.{Bytes, byteValues, fourByteValues}
 use Rattle.mail.specs.Mail.{Record}
-use Rattle.mail.specs.Tally.{Counts, moreProposed, moreForwarded, moreDeclined, moreDeferred, waits, waitingBytes}
+use Rattle.mail.specs.Tally.{Counts, moreProposed, moreForwarded, moreDeclined, moreDeferred, waitingCount, waitingBytes}
 use Rattle.session.specs.Choices.{Shelf}
 use Rattle.session.specs.Session.{Memory}
 use Rattle.layout.specs.Layout.{entryAt, recordOf}
 use Rattle.entries.specs.Decoded.{entriesFrom, recordCount, recordsOf}
 use Rattle.sheet.specs.declared.Sheet.{Sheet}
-use Rattle.sheet.specs.Sheet.{byteRange, proposedBy, forwardedBy, declinedBy, deferredBy}
+use Rattle.sheet.specs.Sheet.{countProposed, countForwarded, countDeclined, countDeferred}
 use Rattle.session_memory.specs.State.{held}
 use Rattle.session_memory.specs.declared.Tally.{Tally}
 use Rattle.session_memory.specs.declared.Five.{Five}
 use Rattle.session_memory.specs.Session.{Await, Keep}
-use Rattle.tally.specs.Tally.{sizesRange, waitingIn, sizesIn, counted}
+use Rattle.tally.specs.Tally.{waitingIn, sizesIn, counted}
 use Rattle.line_effect.specs.declared.Marks.{Marks}
 use Rattle.line_effect.specs.Judged.{Judged}
 use Rattle.marking.specs.States.{statesOf, markAll}
@@ -40,31 +40,31 @@ none-more c = ap (λ (n : ℕ). record { proposed = n; forwarded = c .forwarded;
 -- ---------------------------------------------------------------- the sheet
 
 module _ (h : Sheet) (c : Counts) (k : SheetIs h c) (n : ℕ) where
-  sheet-proposed : SheetIs (proposedBy h n) (moreProposed n c)
+  sheet-proposed : SheetIs (countProposed h n) (moreProposed n c)
   sheet-proposed =
       record { proposed = omega (arith, k .proposed); forwarded = k .forwarded; declined = k .declined; deferred = k .deferred; balance = omega (arith, k .balance) }
 
-  sheet-forwarded : n ≤ byteRange → SheetIs (forwardedBy h n) (moreForwarded n c)
+  sheet-forwarded : n ≤ byteValues → SheetIs (countForwarded h n) (moreForwarded n c)
   sheet-forwarded l =
       record { proposed = k .proposed; forwarded = omega (arith, k .forwarded); declined = k .declined; deferred = k .deferred; balance = omega (arith, k .balance, l) }
 
-  sheet-declined : n ≤ byteRange → SheetIs (declinedBy h n) (moreDeclined n c)
+  sheet-declined : n ≤ byteValues → SheetIs (countDeclined h n) (moreDeclined n c)
   sheet-declined l =
       record { proposed = k .proposed; forwarded = k .forwarded; declined = omega (arith, k .declined); deferred = k .deferred; balance = omega (arith, k .balance, l) }
 
-  sheet-deferred : n ≤ byteRange → SheetIs (deferredBy h n) (moreDeferred n c)
+  sheet-deferred : n ≤ byteValues → SheetIs (countDeferred h n) (moreDeferred n c)
   sheet-deferred l =
       record { proposed = k .proposed; forwarded = k .forwarded; declined = k .declined; deferred = omega (arith, k .deferred); balance = omega (arith, k .balance, l) }
 
-sheet-marked : (h : Sheet) (c : Counts) (m : Marks) → m .places .count ≤ byteRange → m .deferred ≤ byteRange → SheetIs h c → SheetIs (sheetMarked h m) (countsMarked m c)
+sheet-marked : (h : Sheet) (c : Counts) (m : Marks) → m .places .count ≤ byteValues → m .deferred ≤ byteValues → SheetIs h c → SheetIs (sheetMarked h m) (countsMarked m c)
 sheet-marked h c m few less k = go (eqb (m .state) stateForwarded) (eqb (m .state) stateDeclined)
   where
     n : ℕ
     n = m .places .count
 
-    go : (a b : Bool) → SheetIs (cond a (forwardedBy h n) (cond b (deferredBy (declinedBy h n) (m .deferred)) h)) (cond a (moreForwarded n c) (cond b (moreDeferred (m .deferred) (moreDeclined n c)) c))
+    go : (a b : Bool) → SheetIs (cond a (countForwarded h n) (cond b (countDeferred (countDeclined h n) (m .deferred)) h)) (cond a (moreForwarded n c) (cond b (moreDeferred (m .deferred) (moreDeclined n c)) c))
     go true b = sheet-forwarded h c k n few
-    go false true = sheet-deferred (declinedBy h n) (moreDeclined n c) (sheet-declined h c k n few) (m .deferred) less
+    go false true = sheet-deferred (countDeclined h n) (moreDeclined n c) (sheet-declined h c k n few) (m .deferred) less
     go false false = k
 
 -- ---------------------------------------------------------------- what waits
@@ -86,8 +86,8 @@ sizes-law ti na bo t st = sizes-from ti na bo t st 0 (recordCount t)
 -- What was judged, from the memory m₀ before it and m after it: its marks and our turn, of which w awaits the answer, are the counts.
 pub record Counting (m₀ m : Memory) (j : Judged) (w : Await) : Type 0 where
   pub counts : m .counts ≡ moreProposed (proposesOf (j .speaks) w) (countsMarked (j .marks) (m₀ .counts))
-  pub few : j .marks .places .count ≤ byteRange
-  pub less : j .marks .deferred ≤ byteRange
+  pub few : j .marks .places .count ≤ byteValues
+  pub less : j .marks .deferred ≤ byteValues
 
 no-places : (f : Five) → f .count ≡ 0 → held f ≡ []
 no-places f e = ap (λ (n : ℕ). take n (f .items)) e
@@ -109,7 +109,7 @@ module _ (F : Fixed) (E : Shelf) (t : Bytes) (m₀ m : Memory) (j : Judged) (w :
       u = markedBy j t
 
       sheet : Sheet
-      sheet = proposedBy (sheetMarked (T .sheet) (j .marks)) (proposesOf (j .speaks) w)
+      sheet = countProposed (sheetMarked (T .sheet) (j .marks)) (proposesOf (j .speaks) w)
 
       sheet-is : SheetIs sheet (m .counts)
       sheet-is =
@@ -125,14 +125,14 @@ module _ (F : Fixed) (E : Shelf) (t : Bytes) (m₀ m : Memory) (j : Judged) (w :
           let same : m₀ .states ≡ m .states =
           sym states ∙ ap (λ (is : List ℕ). statesOf q (markAll q is (j .marks .state) t)) (sym (no-places (j .marks .places) (eqb-true _ 0 z))) ∙ column in
           record {
-            waiting = before .waiting ∙ ap waits same;
-            sizes = before .sizes ∙ ap (λ (l : List ℕ). waitingBytes (E .table) l % sizesRange) same;
+            waiting = before .waiting ∙ ap waitingCount same;
+            sizes = before .sizes ∙ ap (λ (l : List ℕ). waitingBytes (E .table) l % fourByteValues) same;
             sheet = sheet-is;
           }
       go false z =
           record {
-            waiting = ap waits column;
-            sizes = ap (λ (n : ℕ). n % sizesRange)
+            waiting = ap waitingCount column;
+            sizes = ap (λ (n : ℕ). n % fourByteValues)
                 (sizes-law (F .titles) (F .names) (F .bodies) u (statesOf q u) ∙ ap (λ (R : List Record). waitingBytes R (statesOf q u)) (h .shelved .records) ∙ ap (waitingBytes (E .table)) column);
             sheet = sheet-is;
           }

@@ -10,16 +10,16 @@ use lib.Seq.{drop-at, length-take-le}
 use Rattle.grammar.specs.Bytes.{Bytes}
 use Rattle.grammar.specs.Turns.{Proposal}
 use Rattle.grammar.specs.Scan.{Scan, scanByte}
-use Rattle.grammar.specs.Fields.{bodyLimit}
+use Rattle.grammar.specs.Fields.{bodyMax}
 use Rattle.session.specs.Choices.{Shelf}
 use Rattle.session.specs.Session as on-lists
 use Rattle.transfer_step.specs.declared.Reader.{Reader}
-use Rattle.transfer_step.specs.declared.Stepped.{Stepped}
-use Rattle.transfer_step.specs.declared.Outcome.{Outcome}
-use Rattle.transfer_step.specs.declared.Outcome.the-variants.{More, Whole, Malformed, WrongSum, NoRoom}
+use Rattle.transfer_step.specs.declared.ReadStep.{ReadStep}
+use Rattle.transfer_step.specs.declared.ReadOutcome.{ReadOutcome}
+use Rattle.transfer_step.specs.declared.ReadOutcome.the-variants.{More, Whole, Malformed, WrongSum, NoRoom}
 use Rattle.transfer_step.specs.Step.{stepOf, goesOn}
-use Rattle.transfer_read.specs.Feed.{Run, run, after, feedOf, headingPut, storePut, roomOf}
-use Rattle.transfer_read.specs.Meaning.{Stands, FedAs, Kept, Untouched}
+use Rattle.transfer_read.specs.Feed.{PortionRead, portionRead, afterBytes, feedOf, headingPut, storePut, roomOf}
+use Rattle.transfer_read.specs.Meaning.{Stands, FedAs, SameOutside, Untouched}
 use Rattle.transfer_read.proofs.Follows.{feed-stands}
 use Rattle.transfer_read.proofs.Untouched.{feed-untouched}
 use Rattle.session_memory.specs.Session.{Session}
@@ -35,17 +35,17 @@ use Rattle.form_closed.specs.Facts.{Good}
 -- ---------------------------------------------------------------- one byte as a portion
 
 -- what one byte makes of a reading and its buffers
-abbrev pub afterOne : Stepped → Reader → ℕ → Bytes → Bytes → Run
-afterOne t r b hd st = run (record { outcome = t .outcome; reader = t .reader; count = 1 }) (headingPut (t .put) r b hd) (storePut (t .put) r b st)
+abbrev pub afterOne : ReadStep → Reader → ℕ → Bytes → Bytes → PortionRead
+afterOne t r b hd st = portionRead (record { outcome = t .outcome; reader = t .reader; count = 1 }) (headingPut (t .put) r b hd) (storePut (t .put) r b st)
 
 fed-one : (room : ℕ) (r : Reader) (b : ℕ) (hd st : Bytes) → feedOf room r (b ∷ []) hd st ≡ afterOne (stepOf room r b) r b hd st
 unfolding feedOf
 fed-one room r b hd st = go (stepOf room r b .outcome)
   where
-    go : (o : Outcome)
-        → cond (goesOn o) (after 1 (run (record { outcome = More; reader = stepOf room r b .reader; count = 0 }) (headingPut (stepOf room r b .put) r b hd) (storePut (stepOf room r b .put) r b st)))
-        (run (record { outcome = o; reader = stepOf room r b .reader; count = 1 }) (headingPut (stepOf room r b .put) r b hd) (storePut (stepOf room r b .put) r b st))
-        ≡ run (record { outcome = o; reader = stepOf room r b .reader; count = 1 }) (headingPut (stepOf room r b .put) r b hd) (storePut (stepOf room r b .put) r b st)
+    go : (o : ReadOutcome)
+        → cond (goesOn o) (afterBytes 1 (portionRead (record { outcome = More; reader = stepOf room r b .reader; count = 0 }) (headingPut (stepOf room r b .put) r b hd) (storePut (stepOf room r b .put) r b st)))
+        (portionRead (record { outcome = o; reader = stepOf room r b .reader; count = 1 }) (headingPut (stepOf room r b .put) r b hd) (storePut (stepOf room r b .put) r b st))
+        ≡ portionRead (record { outcome = o; reader = stepOf room r b .reader; count = 1 }) (headingPut (stepOf room r b .put) r b hd) (storePut (stepOf room r b .put) r b st)
     go More = refl
     go Whole = refl
     go Malformed = refl
@@ -55,10 +55,10 @@ fed-one room r b hd st = go (stepOf room r b .outcome)
 pub one-fed : (room : ℕ) (r : Reader) (b : ℕ) (hd st : Bytes) (sc : Scan) → Stands room r hd st sc
     → FedAs room sc (b ∷ []) (afterOne (stepOf room r b) r b hd st) (scanByte room sc b)
 one-fed room r b hd st sc h =
-    subst (λ (u : Run). FedAs room sc (b ∷ []) u (scanByte room sc b)) (fed-one room r b hd st) (feed-stands room r (b ∷ []) hd st sc h)
+    subst (λ (u : PortionRead). FedAs room sc (b ∷ []) u (scanByte room sc b)) (fed-one room r b hd st) (feed-stands room r (b ∷ []) hd st sc h)
 
-pub one-kept : (room : ℕ) (r : Reader) (b : ℕ) (hd st : Bytes) → Kept (r .body) (stepOf room r b .reader .body) st (storePut (stepOf room r b .put) r b st)
-one-kept room r b hd st = (subst (λ (u : Run). Untouched r hd st u) (fed-one room r b hd st) (feed-untouched room r (b ∷ []) hd st)) .1
+pub one-kept : (room : ℕ) (r : Reader) (b : ℕ) (hd st : Bytes) → SameOutside (r .body) (stepOf room r b .reader .body) st (storePut (stepOf room r b .put) r b st)
+one-kept room r b hd st = (subst (λ (u : PortionRead). Untouched r hd st u) (fed-one room r b hd st) (feed-untouched room r (b ∷ []) hd st)) .1
 
 -- ---------------------------------------------------------------- the parts after a byte
 
@@ -70,7 +70,7 @@ module _ (F : Fixed) (E : Shelf) {nt ni ns : ℕ} (c : Cs) (g : Good F nt ni ns 
   abbrev pub behind : Bytes
   behind = drop (s .keep .used) (c .store)
 
-  abbrev pub stepped : Stepped
+  abbrev pub stepped : ReadStep
   stepped = stepOf (roomOf behind) (s .reading .reader) b
 
   abbrev pub heading′ : Bytes
@@ -85,7 +85,7 @@ module _ (F : Fixed) (E : Shelf) {nt ni ns : ℕ} (c : Cs) (g : Good F nt ni ns 
   abbrev pub s′ : Session
   s′ = reading s (stepped .reader) heading′
 
-  pub store-kept : Kept (s .keep .used + s .reading .reader .body) (s .keep .used + stepped .reader .body) (c .store) store′
+  pub store-kept : SameOutside (s .keep .used + s .reading .reader .body) (s .keep .used + stepped .reader .body) (c .store) store′
   store-kept =
       kept-behind (s .keep .used) (s .reading .reader .body) (stepped .reader .body) (c .store) behind′ (g .box .within)
       (one-kept (roomOf behind) (s .reading .reader) b (s .reading .heading) behind)
@@ -94,7 +94,7 @@ module _ (F : Fixed) (E : Shelf) {nt ni ns : ℕ} (c : Cs) (g : Good F nt ni ns 
   behind-back = drop-at (take (s .keep .used) (c .store)) behind′ (s .keep .used) (length-take-le (s .keep .used) (c .store) (g .box .within))
 
   pub room-same : roomOf behind′ ≡ roomOf behind
-  room-same = ap (λ (n : ℕ). min n bodyLimit) (one-kept (roomOf behind) (s .reading .reader) b (s .reading .heading) behind .size)
+  room-same = ap (λ (n : ℕ). min n bodyMax) (one-kept (roomOf behind) (s .reading .reader) b (s .reading .heading) behind .size)
 
   pub room-law : on-lists.roomFor E (v .memory) ≡ roomOf behind
   room-law = omega (arith, length-drop (s .keep .used) (c .store), h .standing .holds .shelved .bytes, h .standing .holds .boxed .bytes)

@@ -12,10 +12,10 @@ use Rattle.grammar.specs.Turns.{Proposal}
 use Rattle.grammar.specs.Scan.{Scan, Scanned, goes, got, malformed, wrongSum, noRoom, scanByte}
 use Rattle.session.specs.Choices.{Shelf}
 use Rattle.session.specs.Session as on-lists
-use Rattle.transfer_step.specs.declared.Outcome.{Outcome}
-use Rattle.transfer_step.specs.declared.Outcome.the-variants.{Whole, Malformed, WrongSum, NoRoom}
+use Rattle.transfer_step.specs.declared.ReadOutcome.{ReadOutcome}
+use Rattle.transfer_step.specs.declared.ReadOutcome.the-variants.{Whole, Malformed, WrongSum, NoRoom}
 use Rattle.transfer_read.specs.Feed.{roomOf}
-use Rattle.transfer_read.specs.Meaning.{FedAs, Stands, Kept}
+use Rattle.transfer_read.specs.Meaning.{FedAs, Stands, SameOutside}
 use Rattle.transfer_read.proofs.Untouched.{kept-same, kept-then}
 use Rattle.places.specs.Places.{entryLen}
 use Rattle.session_memory.specs.Session.{Session}
@@ -48,17 +48,17 @@ module _ (F : Fixed) (E : Shelf) {nt ni ns : ℕ} (c : Cs) (g : Good F nt ni ns 
   abbrev st : Bytes
   st = store′ F E c g v h b
 
-  abbrev Moves : Outcome → Scanned → Type 0
+  abbrev Moves : ReadOutcome → Scanned → Type 0
   Moves o x = Moving F E c (transferMoved o u (c .table) (c .inbox) st) (on-lists.transferMoved E p ps v x)
 
-  reached : (j : ℕ) → u .keep .used + u .reading .reader .body ≤ j → Kept (reachOf (c .session)) j (c .store) st
+  reached : (j : ℕ) → u .keep .used + u .reading .reader .body ≤ j → SameOutside (reachOf (c .session)) j (c .store) st
   reached j l =
-      subst (λ (i : ℕ). Kept i j (c .store) st) (sym (reach-five (c .session) (a .0)))
+      subst (λ (i : ℕ). SameOutside i j (c .store) st) (sym (reach-five (c .session) (a .0)))
       (kept-then (c .session .keep .used + c .session .reading .reader .body) (u .keep .used + u .reading .reader .body) j (c .store) st st (store-kept F E c g v h b)
       (kept-same (u .keep .used + u .reading .reader .body) j st l))
 
   -- it is refused
-  stopped : (o : Outcome) (n : ℕ) → transferMoved o u (c .table) (c .inbox) st ≡ moved n (cs (refusedOf n u) (c .table) (c .inbox) st)
+  stopped : (o : ReadOutcome) (n : ℕ) → transferMoved o u (c .table) (c .inbox) st ≡ moved n (cs (refusedOf n u) (c .table) (c .inbox) st)
       → (last : Scan) → Stands (roomOf (behind F E c g v h b)) (u .reading .reader) (u .reading .heading) (behind′ F E c g v h b) last
       → Moving F E c (transferMoved o u (c .table) (c .inbox) st) (on-lists.refused v n)
   unfolding refusedOf
@@ -80,7 +80,7 @@ module _ (F : Fixed) (E : Shelf) {nt ni ns : ℕ} (c : Cs) (g : Good F nt ni ns 
         answer = e .answer;
         represents = e .represents;
         spared = record {
-          inbox = subst (λ (i : ℕ). Kept (u .keep .kept * entryLen) (i * entryLen) (c .inbox) (keptInbox u (c .inbox))) (sym (e .count)) (inbox-kept F E c g v h b quiet p ps sc last a k);
+          inbox = subst (λ (i : ℕ). SameOutside (u .keep .kept * entryLen) (i * entryLen) (c .inbox) (keptInbox u (c .inbox))) (sym (e .count)) (inbox-kept F E c g v h b quiet p ps sc last a k);
           store = reached (reachOf (keepOf u (c .table) .session)) (omega (arith, e .spent, reach-least (keepOf u (c .table) .session)));
         };
       }
@@ -88,7 +88,7 @@ module _ (F : Fixed) (E : Shelf) {nt ni ns : ℕ} (c : Cs) (g : Good F nt ni ns 
   scanned : (x : Scanned) → FedAs (roomOf (behind F E c g v h b)) sc (b ∷ []) (afterOne (stepped F E c g v h b) (c .session .reading .reader) b (c .session .reading .heading) (behind F E c g v h b)) x
       → Moves (stepped F E c g v h b .outcome) x
   scanned (goes sc′) k =
-      subst (λ (o : Outcome). Moves o (goes sc′)) (sym (k .0))
+      subst (λ (o : ReadOutcome). Moves o (goes sc′)) (sym (k .0))
       (record {
         answer = refl;
         represents = goes-on F E c g v h b p ps sc sc′ a (k .2);
@@ -98,12 +98,12 @@ module _ (F : Fixed) (E : Shelf) {nt ni ns : ℕ} (c : Cs) (g : Good F nt ni ns 
         };
       })
   scanned (got hd x) k =
-      subst (λ (o : Outcome). Moves o (got hd x)) (sym (k .0 .outcome))
+      subst (λ (o : ReadOutcome). Moves o (got hd x)) (sym (k .0 .outcome))
       (subst (λ (t : Bytes). Moves Whole (got t x)) (k .1 .heading)
       (subst (λ (y : Bytes). Moves Whole (got (take (u .reading .reader .head) (u .reading .heading)) y)) (k .1 .body) (whole (k .0 .last) (k .0 .stands))))
-  scanned malformed k = subst (λ (o : Outcome). Moves o malformed) (sym (k .outcome)) (stopped Malformed badTransfer refl (k .last) (k .stands))
-  scanned wrongSum k = subst (λ (o : Outcome). Moves o wrongSum) (sym (k .outcome)) (stopped WrongSum badChecksum refl (k .last) (k .stands))
-  scanned noRoom k = subst (λ (o : Outcome). Moves o noRoom) (sym (k .outcome)) (stopped NoRoom storeFull refl (k .last) (k .stands))
+  scanned malformed k = subst (λ (o : ReadOutcome). Moves o malformed) (sym (k .outcome)) (stopped Malformed badTransfer refl (k .last) (k .stands))
+  scanned wrongSum k = subst (λ (o : ReadOutcome). Moves o wrongSum) (sym (k .outcome)) (stopped WrongSum badChecksum refl (k .last) (k .stands))
+  scanned noRoom k = subst (λ (o : ReadOutcome). Moves o noRoom) (sym (k .outcome)) (stopped NoRoom storeFull refl (k .last) (k .stands))
 
   -- A BYTE OF A TRANSFER
   pub transfer-step : Moving F E c (transferStepOf c b) (on-lists.transferMoved E p ps v (scanByte (on-lists.roomFor E (v .memory)) sc b))

@@ -2,7 +2,7 @@
 use mathlib.Core.Bool.{cond}
 use Prim.Native.Nat.{ℕ, _+_, _*_}
 use lib.Dec.{eqb, ltb}
-use Rattle.transfer_read.specs.Meaning.{Kept}
+use Rattle.transfer_read.specs.Meaning.{SameOutside}
 use Rattle.session_memory.specs.Session.{Session}
 use Rattle.receive_defined.specs.Receiving.{Cs}
 use Rattle.phase.specs.Phase.{phaseTransfer, phaseLeaving}
@@ -16,5 +16,5 @@ reachOf s = s .keep .used + cond (ltb (s .now .phase) phaseTransfer) 0 (cond (eq
 -- From c to d only inbox entries from c's count up to d's, and store bytes from where c's reached to where d's reach have changed: "the rest is
 -- untouched, and so are inbox places past the count". What changes of the table is OneColumn (crates/form_closed)
 pub record Spared (c d : Cs) : Type 0 where
-  pub inbox : Kept (c .session .keep .kept * entryLen) (d .session .keep .kept * entryLen) (c .inbox) (d .inbox)
-  pub store : Kept (reachOf (c .session)) (reachOf (d .session)) (c .store) (d .store)
+  pub inbox : SameOutside (c .session .keep .kept * entryLen) (d .session .keep .kept * entryLen) (c .inbox) (d .inbox)
+  pub store : SameOutside (reachOf (c .session)) (reachOf (d .session)) (c .store) (d .store)

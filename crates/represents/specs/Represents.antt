@@ -28,7 +28,7 @@ use Rattle.receive_defined.specs.Receiving.{Cs}
 use Rattle.represents.specs.Laid.{bodiesBytes}
 use Rattle.represents.specs.Tallies.{Tallies}
 use Rattle.form_closed.specs.Fixed.{Fixed}
-use Rattle.grammar.specs.Fields.{bodyLimit}
+use Rattle.grammar.specs.Fields.{bodyMax}
 use Rattle.phase.specs.Phase.{phaseCalledSid, phaseCallerSid, phasePrompt, phaseTurn, phaseFs, phaseTransfer, phaseLeaving, phaseOver}
 use Rattle.session_memory.specs.Session.{Keep}
 use Rattle.places.specs.Places.{entryLen, proposalLen}
@@ -74,8 +74,8 @@ owed s = accepted (signsIn (drop (s .now .current) (held (s .say .signs)))) (dro
 -- ---------------------------------------------------------------- the parts of the relation
 
 -- Every proposal of the block lies there as it is written.
-abbrev pub Entries : Bytes → ℕ → Type 0
-Entries block n = (i : ℕ) → i < n → Written (entryAt proposalLen block i)
+abbrev pub BlockWritten : Bytes → ℕ → Type 0
+BlockWritten block n = (i : ℕ) → i < n → Written (entryAt proposalLen block i)
 
 -- Table t, inbox i and store st, with the known BIDs, are those of the shelf; buffers of entries hold a whole number of them.
 pub record Shelved (F : Fixed) (E : Shelf) (t i st : Bytes) : Type 0 where
@@ -94,7 +94,7 @@ pub record Boxed (kept used : ℕ) (i st : Bytes) (ms : List Message) : Type 0 w
   pub laid : LaidFrom i 0 0 ms
   pub bodies : take used st ≡ bodiesBytes ms
   pub row : InRow i 0 kept 0
-  pub small : used ≤ kept * bodyLimit
+  pub small : used ≤ kept * bodyMax
   pub bytes : used ≡ bodyBytes ms
 
 -- What is settled with the partner. Its column of the table is no part of it: the session on lists is handed that column and knows of no other.
@@ -112,8 +112,8 @@ pub record Holds (F : Fixed) (E : Shelf) (k : Keep) (t i st : Bytes) (m : on-lis
   pub flags : k .deferred ≡ m .deferred
 
 -- What waits is what is still to be given.
-abbrev pub Says : Fixed → Cs → Bytes → Type 0
-Says F c out = drop (c .session .say .pos) (waitingOf (c .session) (c .table) (F .titles) (F .names) (F .bodies)) ≡ out
+abbrev pub StillToGive : Fixed → Cs → Bytes → Type 0
+StillToGive F c out = drop (c .session .say .pos) (waitingOf (c .session) (c .table) (F .titles) (F .names) (F .bodies)) ≡ out
 
 -- The number of the line that is awaited, and what is held with it: in the partner's turn its proposals, and the sum of their lines as received.
 abbrev pub lineNumber : on-lists.Awaited → ℕ
@@ -141,9 +141,9 @@ Awaits c on-lists.over = phaseOver ≤ c .session .now .phase
 
 -- All but what is counted.
 pub record Standing (F : Fixed) (E : Shelf) (c : Cs) (s : on-lists.Session) : Type 0 where
-  pub entries : Entries (c .session .now .block) (c .session .now .proposals)
+  pub entries : BlockWritten (c .session .now .block) (c .session .now .proposals)
   pub holds : Holds F E (c .session .keep) (c .table) (c .inbox) (c .store) (s .memory)
-  pub says : Says F c (s .out)
+  pub says : StillToGive F c (s .out)
   pub awaits : Awaits c (s .phase)
   pub part : take (c .session .line .len) (c .session .line .bytes) ≡ s .part
   pub afterCr : c .session .line .«after_cr» ≡ s .afterCr

@@ -4,28 +4,27 @@ use mathlib.Core.Path.{_≡_}
 use mathlib.Core.Bool.{cond}
 use Prim.Native.Nat.{_+_, _%_}
 use lib.Dec.{eqb}
-use Rattle.mail.specs.Tally.{Counts, moreForwarded, moreDeclined, moreDeferred, waits, waitingBytes}
+use Rattle.grammar.specs.Bytes.{byteValues, fourByteValues}
+use Rattle.mail.specs.Tally.{Counts, moreForwarded, moreDeclined, moreDeferred, waitingCount, waitingBytes}
 use Rattle.session.specs.Choices.{Shelf}
 use Rattle.session.specs.Session.{Memory}
 use Rattle.phase.specs.Phase.{stateForwarded, stateDeclined}
 use Rattle.sheet.specs.declared.Sheet.{Sheet}
-use Rattle.sheet.specs.Sheet.{byteRange}
 use Rattle.session_memory.specs.declared.Tally.{Tally}
-use Rattle.tally.specs.Tally.{sizesRange}
 use Rattle.line_effect.specs.declared.Marks.{Marks}
 
 -- The sheet stands for these counts; with those not settled it balances.
 pub record SheetIs (h : Sheet) (c : Counts) : Type 0 where
-  pub proposed : h .proposed ≡ c .proposed % byteRange
-  pub forwarded : h .forwarded ≡ c .forwarded % byteRange
-  pub declined : h .declined ≡ c .declined % byteRange
-  pub deferred : h .deferred ≡ c .deferred % byteRange
-  pub balance : (h .forwarded + h .declined + h .deferred + h .unsettled) % byteRange ≡ h .proposed
+  pub proposed : h .proposed ≡ c .proposed % byteValues
+  pub forwarded : h .forwarded ≡ c .forwarded % byteValues
+  pub declined : h .declined ≡ c .declined % byteValues
+  pub deferred : h .deferred ≡ c .deferred % byteValues
+  pub balance : (h .forwarded + h .declined + h .deferred + h .unsettled) % byteValues ≡ h .proposed
 
 -- What waits for the partner, by the session's states, and the sheet.
 pub record Tallies (E : Shelf) (t : Tally) (m : Memory) : Type 0 where
-  pub waiting : t .waiting ≡ waits (m .states)
-  pub sizes : t .sizes ≡ waitingBytes (E .table) (m .states) % sizesRange
+  pub waiting : t .waiting ≡ waitingCount (m .states)
+  pub sizes : t .sizes ≡ waitingBytes (E .table) (m .states) % fourByteValues
   pub sheet : SheetIs (t .sheet) (m .counts)
 
 -- What marks count, on lists.

@@ -10,7 +10,7 @@ use lib.ListN.{length, take, drop}
 use lib.Seq.{take-all, take-at, drop-at}
 use borrow.Author.Tests.{ne-eqb, le-leb, ltb-true, leb-true}
 use Rattle.grammar.specs.Bytes.{Bytes, CR, SP, every}
-use Rattle.grammar.specs.Fields.{digit, isAt, isSize, readSize, writeNum, bodyLimit, decimalBase}
+use Rattle.grammar.specs.Fields.{digit, isAt, isSize, readSize, writeNum, bodyMax, decimalBase}
 use Rattle.grammar.proofs.Basics.{and2, Lacks, lacks-append, all-lacks, field-of}
 use Rattle.grammar.proofs.Fields.{num-back, num-field, at-field, atByte}
 use Rattle.grammar.specs.Ascii.{char}
@@ -20,17 +20,17 @@ use Rattle.text_line.proofs.Laws.{upto-mid, take-front, drop-front, line-front}
 use Rattle.dates.specs.Dates.{Date, Time, isDate, isTime}
 use Rattle.dates.specs.Digits.{twoDigits, dateText, timeText, pairValues, dateLength, timeLength}
 use Rattle.dates.proofs.Digits.{date-text-back, time-text-back}
-use Rattle.route.specs.Routes.{Header, begins, whites, untilSpace, firstForm, stationOf, isStamp, stampLength, behindTime, readHeader, routeOf, originOf, TAB, datePlace, timePlace}
-use Rattle.route.specs.Written.{Ours, ours, mayWrite, numberLimit, stampText, routeLine, withRoute, written, badField, noRoom, Added, addRoute, numberDigits}
+use Rattle.route.specs.Routes.{Header, beginsWithTwo, whites, untilSpace, firstForm, stationOf, isStamp, stampLength, behindTime, readHeader, routeOf, originOf, TAB, datePlace, timePlace}
+use Rattle.route.specs.Written.{OurHeader, headerOfOurs, mayWrite, numberLimit, stampText, routeLine, withRoute, routeWritten, badField, noRoom, Added, addRoute, numberDigits}
 
 -- what the test of our fields says
-record Good (o : Ours) : Type 0 where
+record Good (o : OurHeader) : Type 0 where
   date : isDate (o .date) ≡ true
   time : isTime (o .time) ≡ true
   number : o .number < 10 ^ numberDigits
   mailbox : isAt (o .mailbox) ≡ true
 
-good : (o : Ours) → mayWrite o ≡ true → Good o
+good : (o : OurHeader) → mayWrite o ≡ true → Good o
 unfolding mayWrite
 good o e =
     let p = and2 (isDate (o .date) && isTime (o .time)) (ltb (o .number) numberLimit && isAt (o .mailbox)) e in
@@ -60,7 +60,7 @@ first-back n w h e =
     (rw (number-back n h, until-space w (all-lacks atByte SP w refl ((at-field w e) .class)), e))
 
 -- digits in front are neither white space nor `@:`
-digits-first : (w r : Bytes) → 1 ≤ length w → every digit w ≡ true → (begins (char "@") (char ":") (w ++ (char "@" ∷ r)) ≡ false) × (whites (w ++ (char "@" ∷ r)) ≡ 0)
+digits-first : (w r : Bytes) → 1 ≤ length w → every digit w ≡ true → (beginsWithTwo (char "@") (char ":") (w ++ (char "@" ∷ r)) ≡ false) × (whites (w ++ (char "@" ∷ r)) ≡ 0)
 unfolding whites
 digits-first [] r h e = let z : ⊥ = omega arith in absurd z
 digits-first (x ∷ []) r h e =
@@ -70,27 +70,27 @@ digits-first (x ∷ y ∷ w) r h e =
 
 -- ---------------------------------------------------------------- the line
 
-behind-back : (o : Ours) → Good o → behindTime (routeLine o) (o .date) (o .time) ≡ some (ours o)
+behind-back : (o : OurHeader) → Good o → behindTime (routeLine o) (o .date) (o .time) ≡ some (headerOfOurs o)
 unfolding behindTime whites stationOf routeLine stampText dateText timeText
 behind-back o g =
     let f = num-field (numberDigits - 1) (o .number) in
     let d = digits-first (writeNum numberDigits (o .number)) (o .mailbox) (f .least) (f .class) in
     rw (d .1, d .0, first-back (o .number) (o .mailbox) (g .number) (g .mailbox))
 
-stamp-back : (o : Ours) → isStamp (routeLine o) ≡ true
+stamp-back : (o : OurHeader) → isStamp (routeLine o) ≡ true
 unfolding routeLine stampText dateText timeText
 stamp-back o = rw (le-leb stampLength (length (routeLine o)) (omega arith))
 
-date-part : (o : Ours) → take dateLength (drop datePlace (routeLine o)) ≡ dateText (o .date)
+date-part : (o : OurHeader) → take dateLength (drop datePlace (routeLine o)) ≡ dateText (o .date)
 unfolding routeLine stampText dateText timeText
 date-part o = refl
 
-time-part : (o : Ours) → take timeLength (drop timePlace (routeLine o)) ≡ timeText (o .time)
+time-part : (o : OurHeader) → take timeLength (drop timePlace (routeLine o)) ≡ timeText (o .time)
 unfolding routeLine stampText dateText timeText
 time-part o = refl
 
 -- OUR LINE READS BACK AS GIVEN
-pub header-back : (o : Ours) → mayWrite o ≡ true → readHeader (routeLine o) ≡ some (ours o)
+pub header-back : (o : OurHeader) → mayWrite o ≡ true → readHeader (routeLine o) ≡ some (headerOfOurs o)
 unfolding readHeader
 header-back o e =
     let g = good o e in
@@ -111,24 +111,24 @@ stamp-lacks d t =
     let i = two-lacks (t .minute) in
     (refl, (refl, (y .0, (y .1 .0, (m .0, (m .1 .0, (a .0, (a .1 .0, (refl, (h .0, (h .1 .0, (i .0, (i .1 .0, (refl, (refl, tt)))))))))))))))
 
-line-lacks : (o : Ours) → Good o → Lacks CR (routeLine o)
+line-lacks : (o : OurHeader) → Good o → Lacks CR (routeLine o)
 unfolding routeLine
 line-lacks o g =
     let f = num-field (numberDigits - 1) (o .number) in
     lacks-append CR (stampText (o .date) (o .time)) (writeNum numberDigits (o .number) ++ (char "@" ∷ o .mailbox)) (stamp-lacks (o .date) (o .time))
     (lacks-append CR (writeNum numberDigits (o .number)) (char "@" ∷ o .mailbox) (all-lacks digit CR (writeNum numberDigits (o .number)) refl (f .class)) (refl, all-lacks atByte CR (o .mailbox) refl ((at-field (o .mailbox) (g .mailbox)) .class)))
 
-no-lf : (o : Ours) → leadingLf (routeLine o) ≡ 0
+no-lf : (o : OurHeader) → leadingLf (routeLine o) ≡ 0
 unfolding routeLine stampText
 no-lf o = refl
 
 -- THE HEADERS OF THE WRITTEN BODY are ours, and then those of the original
-pub headers-on : (o : Ours) (body : Bytes) → mayWrite o ≡ true → routeOf (withRoute o body) ≡ ours o ∷ routeOf body
+pub headers-on : (o : OurHeader) (body : Bytes) → mayWrite o ≡ true → routeOf (withRoute o body) ≡ headerOfOurs o ∷ routeOf body
 unfolding routeOf withRoute
 headers-on o body e = rw (line-front (routeLine o) body (line-lacks o (good o e)) (no-lf o), header-back o e)
 
 -- "every byte below it is the original"
-pub below-original : (o : Ours) (body : Bytes) → drop (suc (length (routeLine o))) (withRoute o body) ≡ body
+pub below-original : (o : OurHeader) (body : Bytes) → drop (suc (length (routeLine o))) (withRoute o body) ≡ body
 unfolding withRoute
 below-original o body = drop-front CR (routeLine o) body
 
@@ -142,36 +142,36 @@ origin-cons h [] = refl
 origin-cons h (g ∷ hs) = refl
 
 -- THE ORIGIN STAYS: the body's where it names one, else ours
-pub origin-stays : (o : Ours) (body : Bytes) → mayWrite o ≡ true → originOf (routeOf (withRoute o body)) ≡ elseOurs (o .mailbox) (originOf (routeOf body))
-origin-stays o body e = rw (headers-on o body e) (origin-cons (ours o) (routeOf body))
+pub origin-stays : (o : OurHeader) (body : Bytes) → mayWrite o ≡ true → originOf (routeOf (withRoute o body)) ≡ elseOurs (o .mailbox) (originOf (routeOf body))
+origin-stays o body e = rw (headers-on o body e) (origin-cons (headerOfOurs o) (routeOf body))
 
 -- ---------------------------------------------------------------- the buffer
 
 -- what an answer of the writer says of the buffer
-pub record Wrote (buffer : Bytes) (o : Ours) (body : Bytes) (a : Added) : Type 0 where
+pub record Wrote (buffer : Bytes) (o : OurHeader) (body : Bytes) (a : Added) : Type 0 where
   pub valid : mayWrite o ≡ true
-  pub within : a .count ≤ bodyLimit
+  pub within : a .count ≤ bodyMax
   pub text : take (a .count) (a .buffer) ≡ withRoute o body
   pub behind : drop (a .count) (a .buffer) ≡ drop (a .count) buffer
 
 abbrev judged : Bytes → Bytes → Bool → Bool → Added
 judged buffer text a b =
     cond a
-    (cond b (record { answer = written; count = length text; buffer = text ++ drop (length text) buffer }) (record { answer = noRoom; count = 0; buffer = buffer }))
+    (cond b (record { answer = routeWritten; count = length text; buffer = text ++ drop (length text) buffer }) (record { answer = noRoom; count = 0; buffer = buffer }))
     (record { answer = badField; count = 0; buffer = buffer })
 
 -- the answer 0: the text stands at the buffer's start, and nothing behind it has changed
-pub wrote-whole : (buffer : Bytes) (o : Ours) (body : Bytes) → (addRoute buffer o body) .answer ≡ written → Wrote buffer o body (addRoute buffer o body)
+pub wrote-whole : (buffer : Bytes) (o : OurHeader) (body : Bytes) → (addRoute buffer o body) .answer ≡ routeWritten → Wrote buffer o body (addRoute buffer o body)
 unfolding addRoute
-wrote-whole buffer o body e = go (mayWrite o) refl (leb (length (withRoute o body)) bodyLimit && leb (length (withRoute o body)) (length buffer)) refl e
+wrote-whole buffer o body e = go (mayWrite o) refl (leb (length (withRoute o body)) bodyMax && leb (length (withRoute o body)) (length buffer)) refl e
   where
-    go : (a : Bool) → mayWrite o ≡ a → (b : Bool) → leb (length (withRoute o body)) bodyLimit && leb (length (withRoute o body)) (length buffer) ≡ b
-        → (judged buffer (withRoute o body) a b) .answer ≡ written → Wrote buffer o body (judged buffer (withRoute o body) a b)
+    go : (a : Bool) → mayWrite o ≡ a → (b : Bool) → leb (length (withRoute o body)) bodyMax && leb (length (withRoute o body)) (length buffer) ≡ b
+        → (judged buffer (withRoute o body) a b) .answer ≡ routeWritten → Wrote buffer o body (judged buffer (withRoute o body) a b)
     go true f true g k =
-        let p = and2 (leb (length (withRoute o body)) bodyLimit) (leb (length (withRoute o body)) (length buffer)) g in
+        let p = and2 (leb (length (withRoute o body)) bodyMax) (leb (length (withRoute o body)) (length buffer)) g in
         record {
           valid = f;
-          within = leb-true (length (withRoute o body)) bodyLimit (p .0);
+          within = leb-true (length (withRoute o body)) bodyMax (p .0);
           text = take-at (withRoute o body) (drop (length (withRoute o body)) buffer) (length (withRoute o body)) refl;
           behind = drop-at (withRoute o body) (drop (length (withRoute o body)) buffer) (length (withRoute o body)) refl;
         }
@@ -179,12 +179,12 @@ wrote-whole buffer o body e = go (mayWrite o) refl (leb (length (withRoute o bod
     go false f b g k = let z : ⊥ = omega arith in absurd z
 
 -- every other answer: nothing is written
-pub refused-writes-nothing : (buffer : Bytes) (o : Ours) (body : Bytes) → ((addRoute buffer o body) .answer ≡ written → ⊥)
+pub refused-writes-nothing : (buffer : Bytes) (o : OurHeader) (body : Bytes) → ((addRoute buffer o body) .answer ≡ routeWritten → ⊥)
     → ((addRoute buffer o body) .buffer ≡ buffer) × ((addRoute buffer o body) .count ≡ 0)
 unfolding addRoute
-refused-writes-nothing buffer o body n = go (mayWrite o) (leb (length (withRoute o body)) bodyLimit && leb (length (withRoute o body)) (length buffer)) n
+refused-writes-nothing buffer o body n = go (mayWrite o) (leb (length (withRoute o body)) bodyMax && leb (length (withRoute o body)) (length buffer)) n
   where
-    go : (a b : Bool) → ((judged buffer (withRoute o body) a b) .answer ≡ written → ⊥)
+    go : (a b : Bool) → ((judged buffer (withRoute o body) a b) .answer ≡ routeWritten → ⊥)
         → ((judged buffer (withRoute o body) a b) .buffer ≡ buffer) × ((judged buffer (withRoute o body) a b) .count ≡ 0)
     go true true k = absurd (k refl)
     go true false k = (refl, refl)

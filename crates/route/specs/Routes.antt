@@ -23,7 +23,7 @@ pub record Header : Type 0 where
   pub number : ℕ
   pub mailbox : Bytes
 
-pub record Station : Type 0 where
+pub record HeaderStation : Type 0 where
   pub number : ℕ
   pub mailbox : Bytes
 
@@ -49,10 +49,10 @@ abbrev pub isGmt : ℕ → Bool
 isGmt b = eqb b (char "Z") || eqb b (char "z")
 
 -- A text begins with these two bytes.
-abbrev pub begins : ℕ → ℕ → Bytes → Bool
-begins a b [] = false
-begins a b (x ∷ []) = false
-begins a b (x ∷ y ∷ l) = eqb x a && eqb y b
+abbrev pub beginsWithTwo : ℕ → ℕ → Bytes → Bool
+beginsWithTwo a b [] = false
+beginsWithTwo a b (x ∷ []) = false
+beginsWithTwo a b (x ∷ y ∷ l) = eqb x a && eqb y b
 
 -- ---------------------------------------------------------------- number and mailbox
 
@@ -65,28 +65,28 @@ abbrev pub untilSpace : Bytes → Bytes
 untilSpace w = take (upto SP w) w
 
 -- "Mailboxes follow 01's at rule; a number has 1 to 9 digits"
-abbrev pub station : Option ℕ → Bytes → Option Station
-station none w = none
-station (some n) w = cond (isAt w) (some (record { number = n; mailbox = w })) none
+abbrev pub headerStation : Option ℕ → Bytes → Option HeaderStation
+headerStation none w = none
+headerStation (some n) w = cond (isAt w) (some (record { number = n; mailbox = w })) none
 
 -- "number `@` mailbox, remarks"
-unfoldable pub firstForm : Bytes → Option Station
-firstForm r = station (readSize (take (upto (char "@") r) r)) (untilSpace (drop (suc (upto (char "@") r)) r))
+unfoldable pub firstForm : Bytes → Option HeaderStation
+firstForm r = headerStation (readSize (take (upto (char "@") r) r)) (untilSpace (drop (suc (upto (char "@") r)) r))
 
 -- How many bytes the first `#:` and what stands before it have; all where there is none.
 unfoldable pub markEnd : Bytes → ℕ
 markEnd [] = 0
-markEnd (x ∷ xs) = cond (begins (char "#") (char ":") (x ∷ xs)) markLength (suc (markEnd xs))
+markEnd (x ∷ xs) = cond (beginsWithTwo (char "#") (char ":") (x ∷ xs)) markLength (suc (markEnd xs))
 
 -- "mailbox, remarks, the first `#:` with the number, remarks", after `@:`; the remarks begin where the mailbox ends
-unfoldable pub secondForm : Bytes → Option Station
+unfoldable pub secondForm : Bytes → Option HeaderStation
 secondForm r =
     let rest = drop (upto SP r) r in
-    station (readSize (untilSpace (drop (markEnd rest) rest))) (untilSpace r)
+    headerStation (readSize (untilSpace (drop (markEnd rest) rest))) (untilSpace r)
 
 -- Either form: the second is the one that begins with `@:`.
-unfoldable pub stationOf : Bytes → Option Station
-stationOf r = cond (begins (char "@") (char ":") r) (secondForm (drop markLength r)) (firstForm r)
+unfoldable pub stationOf : Bytes → Option HeaderStation
+stationOf r = cond (beginsWithTwo (char "@") (char ":") r) (secondForm (drop markLength r)) (firstForm r)
 
 -- ---------------------------------------------------------------- a line
 
@@ -104,7 +104,7 @@ abbrev pub stampLength : ℕ
 stampLength = timePlace + timeLength
 
 abbrev pub isStamp : Bytes → Bool
-isStamp l = leb stampLength (length l) && (begins (char "R") (char ":") l && eqb (getD l slashPlace 0) (char "/"))
+isStamp l = leb stampLength (length l) && (beginsWithTwo (char "R") (char ":") l && eqb (getD l slashPlace 0) (char "/"))
 
 -- "another letter, or none, is shown as unknown": one letter at most belongs to the stamp
 abbrev pub zoneByte : Bytes → ℕ
@@ -113,7 +113,7 @@ zoneByte l = getD l stampLength 0
 abbrev pub pastZone : ℕ → ℕ
 pastZone b = cond (isLetter b) (stampLength + 1) stampLength
 
-abbrev pub headerOf : Date → Time → Bool → Option Station → Option Header
+abbrev pub headerOf : Date → Time → Bool → Option HeaderStation → Option Header
 headerOf d t gmt none = none
 headerOf d t gmt (some s) = some (record { date = d; time = t; gmt = gmt; number = s .number; mailbox = s .mailbox })
 
@@ -123,34 +123,34 @@ behindTime l d t =
     let rest = drop (pastZone (zoneByte l)) l in
     cond (ltb 0 (whites rest)) (headerOf d t (isGmt (zoneByte l)) (stationOf (drop (whites rest) rest))) none
 
-abbrev pub stamped : Bytes → Option Date → Option Time → Option Header
-stamped l none t = none
-stamped l (some d) none = none
-stamped l (some d) (some t) = behindTime l d t
+abbrev pub headerStamped : Bytes → Option Date → Option Time → Option Header
+headerStamped l none t = none
+headerStamped l (some d) none = none
+headerStamped l (some d) (some t) = behindTime l d t
 
 -- The header that a line is, if it is one.
 unfoldable pub readHeader : Bytes → Option Header
-readHeader l = cond (isStamp l) (stamped l (readDate (take dateLength (drop datePlace l))) (readTime (take timeLength (drop timePlace l)))) none
+readHeader l = cond (isStamp l) (headerStamped l (readDate (take dateLength (drop datePlace l))) (readTime (take timeLength (drop timePlace l)))) none
 
 -- ---------------------------------------------------------------- a body
 
-abbrev pub followed : Option Header → List Header → List Header
-followed none hs = []
-followed (some h) hs = h ∷ hs
+abbrev pub headerThen : Option Header → List Header → List Header
+headerThen none hs = []
+headerThen (some h) hs = h ∷ hs
 
 -- "The headers end at the first line that isn't one"
 abbrev pub headersOf : List Bytes → List Header
 headersOf [] = []
-headersOf (l ∷ ls) = followed (readHeader l) (headersOf ls)
+headersOf (l ∷ ls) = headerThen (readHeader l) (headersOf ls)
 
 unfoldable pub routeOf : Bytes → List Header
 routeOf body = headersOf (bodyLines body)
 
-abbrev pub lastOf : Header → List Header → Header
-lastOf h [] = h
-lastOf h (g ∷ hs) = lastOf g hs
+abbrev pub lastHeader : Header → List Header → Header
+lastHeader h [] = h
+lastHeader h (g ∷ hs) = lastHeader g hs
 
 -- "the lowest names the origin"; "A body without a header line has no origin."
 unfoldable pub originOf : List Header → Option Bytes
 originOf [] = none
-originOf (h ∷ hs) = some ((lastOf h hs) .mailbox)
+originOf (h ∷ hs) = some ((lastHeader h hs) .mailbox)

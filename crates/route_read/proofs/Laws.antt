@@ -11,9 +11,9 @@ use lib.Seq.{drop-drop, take-nil}
 use borrow.Author.Tests.{eq-eqb, ne-eqb, le-leb, lt-leb, lt-ltb, le-ltb}
 use Rattle.grammar.specs.Bytes.{Bytes, SP}
 use Rattle.grammar.specs.Fields.{isAt, isCall, readSize}
-use Rattle.grammar.proofs.Basics.{told, told-not}
+use Rattle.grammar.proofs.Basics.{not-told, told-not}
 use Rattle.grammar.specs.Ascii.{char}
-use Rattle.span.specs.Places.{between, part, upto}
+use Rattle.span.specs.Places.{bytesBetween, part, upto, Lies}
 use Rattle.span.specs.declared.Span.{Span}
 use Rattle.span.proofs.Laws.{found-within}
 use Rattle.size.specs.Meaning.{sizeIs}
@@ -26,23 +26,23 @@ use Rattle.calendar.specs.declared.Time.{Time}
 use Rattle.date_digits.specs.Meaning.{readDateIs, readTimeIs}
 use Rattle.date_digits.specs.declared.ReadDate.{ReadDate}
 use Rattle.date_digits.specs.declared.ReadTime.{ReadTime}
-use Rattle.route.specs.Routes.{begins, isWhite, whites, markEnd, station, firstForm, secondForm, stationOf, isGmt, zoneByte, pastZone, headerOf, behindTime, readHeader, datePlace, slashPlace, timePlace, stampLength, markLength}
-use Rattle.route_read.specs.Meaning.{Lies, stationSaid, StationLies}
+use Rattle.route.specs.Routes.{beginsWithTwo, isWhite, whites, markEnd, headerStation, firstForm, secondForm, stationOf, isGmt, zoneByte, pastZone, headerOf, behindTime, readHeader, datePlace, slashPlace, timePlace, stampLength, markLength}
+use Rattle.route_read.specs.Meaning.{stationSaid, StationLies}
 use Rattle.route_read.specs.declared.Stated.{Stated}
 use Rattle.route_read.specs.declared.Station.{Station}
 
 -- ---------------------------------------------------------------- number and mailbox, judged
 
 module _ (l : Bytes) (n m : Span) (z : Size) (k : sizeIs z ≡ readSize (part l n)) where
-  pub no-number : z ≡ Size.Bad → none ≡ station (readSize (part l n)) (part l m)
+  pub no-number : z ≡ Size.Bad → none ≡ headerStation (readSize (part l n)) (part l m)
   no-number q = rw (sym k ∙ ap sizeIs q)
 
   module _ (v : ℕ) (q : z ≡ Size.Value v) (r : Bool) (i : r ≡ isAt (part l m)) where
-    pub no-mailbox : not r ≡ true → none ≡ station (readSize (part l n)) (part l m)
+    pub no-mailbox : not r ≡ true → none ≡ headerStation (readSize (part l n)) (part l m)
     no-mailbox e = rw (sym k ∙ ap sizeIs q, told-not i e)
 
-    pub a-station : not r ≡ false → some (record { number = v; mailbox = part l m }) ≡ station (readSize (part l n)) (part l m)
-    a-station e = rw (sym k ∙ ap sizeIs q, told i e)
+    pub a-station : not r ≡ false → some (record { number = v; mailbox = part l m }) ≡ headerStation (readSize (part l n)) (part l m)
+    a-station e = rw (sym k ∙ ap sizeIs q, not-told i e)
 
 -- ---------------------------------------------------------------- where things lie
 
@@ -53,7 +53,7 @@ mark-most : (l : Bytes) → markEnd l ≤ length l
 unfolding markEnd
 mark-most [] = omega arith
 mark-most (x ∷ []) = omega arith
-mark-most (x ∷ y ∷ l) = go (begins (char "#") (char ":") (x ∷ y ∷ l)) (mark-most (y ∷ l))
+mark-most (x ∷ y ∷ l) = go (beginsWithTwo (char "#") (char ":") (x ∷ y ∷ l)) (mark-most (y ∷ l))
   where
     go : (b : Bool) → markEnd (y ∷ l) ≤ length (y ∷ l) → cond b markLength (suc (markEnd (y ∷ l))) ≤ length (x ∷ y ∷ l)
     go true h = omega arith
@@ -70,7 +70,7 @@ whites-most (x ∷ l) = go (isWhite x) (whites-most l)
 
 -- ---------------------------------------------------------------- the first form
 
-no-station : (o : Option ℕ) → station o [] ≡ none
+no-station : (o : Option ℕ) → headerStation o [] ≡ none
 unfolding isAt isCall
 no-station none = refl
 no-station (some n) = refl
@@ -87,7 +87,7 @@ module _ (l : Bytes) (at sign : ℕ) (h : at ≤ length l) (e : sign ≡ at + up
     pub first-lies : Lies l (record { start = at; end = sign }) × Lies l (record { start = sign + 1; end = end })
     first-lies = let w = found-within l (sign + 1) SP (omega arith) in ((omega arith, omega arith), (omega arith, omega (arith, w, f)))
 
-    pub first-by : station (readSize (between l at sign)) (between l (sign + 1) end) ≡ firstForm (drop at l)
+    pub first-by : headerStation (readSize (bytesBetween l at sign)) (bytesBetween l (sign + 1) end) ≡ firstForm (drop at l)
     unfolding firstForm
     first-by =
         let a : sign - at ≡ upto (char "@") (drop at l) = omega arith in
@@ -107,7 +107,7 @@ module _ (l : Bytes) (at end number stop : ℕ) (h : at ≤ length l) (e : end �
       let v = found-within l number SP in-line in
       ((omega arith, omega (arith, v, g)), (omega arith, omega (arith, w, e)))
 
-  pub second-by : station (readSize (between l number stop)) (between l at end) ≡ secondForm (drop at l)
+  pub second-by : headerStation (readSize (bytesBetween l number stop)) (bytesBetween l at end) ≡ secondForm (drop at l)
   unfolding secondForm
   second-by =
       let a : drop (upto SP (drop at l)) (drop at l) ≡ drop end l = drop-to l _ at end (sym e) in
@@ -118,7 +118,7 @@ module _ (l : Bytes) (at end number stop : ℕ) (h : at ≤ length l) (e : end �
 
 -- ---------------------------------------------------------------- either form
 
-module _ (l : Bytes) (at : ℕ) (r : Bool) (e : r ≡ begins (char "@") (char ":") (drop at l)) where
+module _ (l : Bytes) (at : ℕ) (r : Bool) (e : r ≡ beginsWithTwo (char "@") (char ":") (drop at l)) where
   pub as-second : r ≡ true → secondForm (drop (at + markLength) l) ≡ stationOf (drop at l)
   unfolding stationOf
   as-second f = rw (sym e ∙ f, drop-to l markLength at (at + markLength) refl)
@@ -159,11 +159,11 @@ station-lies l r s h q = subst (StationLies l) q h
 
 -- ---------------------------------------------------------------- a line
 
-pub line-short : (l : Bytes) → length l < stampLength → none ≡ readHeader l
+pub stamp-short : (l : Bytes) → length l < stampLength → none ≡ readHeader l
 unfolding readHeader
-line-short l h = rw (lt-leb stampLength (length l) h)
+stamp-short l h = rw (lt-leb stampLength (length l) h)
 
-module _ (l : Bytes) (h : stampLength ≤ length l) (r : Bool) (e : r ≡ begins (char "R") (char ":") l) where
+module _ (l : Bytes) (h : stampLength ≤ length l) (r : Bool) (e : r ≡ beginsWithTwo (char "R") (char ":") l) where
   pub line-begins : not r ≡ true → none ≡ readHeader l
   unfolding readHeader
   line-begins f = rw (le-leb stampLength (length l) h, told-not e f)
@@ -171,18 +171,18 @@ module _ (l : Bytes) (h : stampLength ≤ length l) (r : Bool) (e : r ≡ begins
   module _ (f : not r ≡ false) where
     pub line-slash : (getD l slashPlace 0 ≡ char "/" → ⊥) → none ≡ readHeader l
     unfolding readHeader
-    line-slash n = rw (le-leb stampLength (length l) h, told e f, ne-eqb _ _ n)
+    line-slash n = rw (le-leb stampLength (length l) h, not-told e f, ne-eqb _ _ n)
 
     module _ (g : getD l slashPlace 0 ≡ char "/") (z : ReadDate) (k : readDateIs z ≡ readDate (take dateLength (drop datePlace l))) where
       pub no-date : z ≡ ReadDate.BadDate → none ≡ readHeader l
       unfolding readHeader
-      no-date q = rw (le-leb stampLength (length l) h, told e f, eq-eqb _ _ g, sym k ∙ ap readDateIs q)
+      no-date q = rw (le-leb stampLength (length l) h, not-told e f, eq-eqb _ _ g, sym k ∙ ap readDateIs q)
 
       module _ (d : Date) (q : z ≡ ReadDate.Says d) (y : ReadTime) (j : readTimeIs y ≡ readTime (take timeLength (drop timePlace l))) where
         pub no-time : y ≡ ReadTime.BadTime → none ≡ readHeader l
         unfolding readHeader
-        no-time i = rw (le-leb stampLength (length l) h, told e f, eq-eqb _ _ g, sym k ∙ ap readDateIs q, sym j ∙ ap readTimeIs i)
+        no-time i = rw (le-leb stampLength (length l) h, not-told e f, eq-eqb _ _ g, sym k ∙ ap readDateIs q, sym j ∙ ap readTimeIs i)
 
         pub as-behind : (t : Time) → y ≡ ReadTime.Says t → behindTime l (dateIs d) (timeIs t) ≡ readHeader l
         unfolding readHeader
-        as-behind t i = rw (le-leb stampLength (length l) h, told e f, eq-eqb _ _ g, sym k ∙ ap readDateIs q, sym j ∙ ap readTimeIs i)
+        as-behind t i = rw (le-leb stampLength (length l) h, not-told e f, eq-eqb _ _ g, sym k ∙ ap readDateIs q, sym j ∙ ap readTimeIs i)

@@ -1,21 +1,15 @@
 -- What an answer says of its line, and that its mailbox lies in the line.
 use mathlib.Core.Path.{_≡_}
 use mathlib.Core.Option.{Option, none, some}
-use Prim.Native.Nat.{_≤_}
-use lib.ListN.{length}
 use Rattle.grammar.specs.Bytes.{Bytes}
-use Rattle.span.specs.Places.{part}
-use Rattle.span.specs.declared.Span.{Span}
+use Rattle.span.specs.Places.{part, Lies}
 use Rattle.calendar.specs.Meaning.{dateIs, timeIs}
 use Rattle.route.specs.Routes as routes
 use Rattle.route_read.specs.declared.Header.{Header}
 use Rattle.route_read.specs.declared.Route.{Route}
 use Rattle.route_read.specs.declared.Stated.{Stated}
 
-abbrev pub Lies : Bytes → Span → Type 0
-Lies l s = (s .start ≤ s .end) × (s .end ≤ length l)
-
-abbrev pub stationSaid : Bytes → Stated → Option routes.Station
+abbrev pub stationSaid : Bytes → Stated → Option routes.HeaderStation
 stationSaid l Stated.Nothing = none
 stationSaid l (Stated.Is s) = some (record { number = s .number; mailbox = part l (s .mailbox) })
 
@@ -23,7 +17,7 @@ abbrev pub StationLies : Bytes → Stated → Type 0
 StationLies l Stated.Nothing = Unit {0}
 StationLies l (Stated.Is s) = Lies l (s .mailbox)
 
-abbrev pub StationIs : Bytes → Stated → Option routes.Station → Type 0
+abbrev pub StationIs : Bytes → Stated → Option routes.HeaderStation → Type 0
 StationIs l r o = (stationSaid l r ≡ o) × StationLies l r
 
 -- The header of an answer, its mailbox by the bytes where it lies.

@@ -21,10 +21,10 @@ ghost use mathlib.Core.Path.{_≡_};
 ghost use Prim.Native.Nat.{_≤_};
 ghost use lib.ListN.{length, drop};
 ghost use Rattle.grammar.specs.Fields.{readSize};
-ghost use Rattle.span.specs.Places.{part};
+ghost use Rattle.span.specs.Places.{part, Lies};
 ghost use Rattle.calendar.specs.Meaning.{dateIs, timeIs};
-ghost use Rattle.route.specs.Routes.{station, firstForm, secondForm, stationOf, behindTime, readHeader};
-ghost use Rattle.route_read.specs.Meaning.{Lies, StationIs, RouteIs};
+ghost use Rattle.route.specs.Routes.{headerStation, firstForm, secondForm, stationOf, behindTime, readHeader};
+ghost use Rattle.route_read.specs.Meaning.{StationIs, RouteIs};
 
 // A time stamp without its zone, 003's STAMP: `R:`, the date, a slash, the time.
 const DATE: usize = MARK_LENGTH;
@@ -65,7 +65,7 @@ enum Stated {
 // Number and mailbox, each judged by its rule.
 fn judged(line: &[u8], number: Span, mailbox: Span) -> Stated
     requires { ⌜ Lies (now line) number × Lies (now line) mailbox ⌝ }
-    ensures { λ r. ⌜ StationIs (now (line .entry)) r (station (readSize (part (now (line .entry)) number)) (part (now (line .entry)) mailbox)) ⌝ }
+    ensures { λ r. ⌜ StationIs (now (line .entry)) r (headerStation (readSize (part (now (line .entry)) number)) (part (now (line .entry)) mailbox)) ⌝ }
 {
     let from = number.start;
     let to = number.end;

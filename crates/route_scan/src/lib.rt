@@ -2,7 +2,7 @@
 ghost use mathlib.Core.Path.{_≡_};
 ghost use Prim.Native.Nat.{_+_};
 ghost use lib.ListN.{drop, getD};
-ghost use Rattle.route.specs.Routes.{isWhite, whites, isLetter, isGmt, begins, markEnd, pastZone};
+ghost use Rattle.route.specs.Routes.{isWhite, whites, isLetter, isGmt, beginsWithTwo, markEnd, pastZone};
 
 // `R:`, `@:` and `#:` have so many bytes.
 pub const MARK_LENGTH: usize = 2;
@@ -66,7 +66,7 @@ pub fn skip_white(line: &[u8], at: usize) -> usize
 
 // The bytes a and b stand at a place.
 pub fn begins_at(line: &[u8], at: usize, a: u8, b: u8) -> bool
-    ensures { λ r. ⌜ r ≡ begins a b (drop at (now (line .entry))) ⌝ }
+    ensures { λ r. ⌜ r ≡ beginsWithTwo a b (drop at (now (line .entry))) ⌝ }
 {
     if line.len() <= at {
         return false;

@@ -10,23 +10,23 @@ use lib.ListN.{length, drop, length-append, length-take, length-drop}
 use lib.Seq.{take-all}
 use borrow.Author.Tests.{lt-ltb, le-ltb, le-leb, lt-leb, ltb-true}
 use Rattle.grammar.specs.Bytes.{Bytes, CR}
-use Rattle.grammar.specs.Fields.{isAt, decimal, writeNum, bodyLimit, decimalDigits}
-use Rattle.grammar.proofs.Basics.{and2, and-false, told, told-not}
+use Rattle.grammar.specs.Fields.{isAt, decimal, writeNum, bodyMax, decimalDigits}
+use Rattle.grammar.proofs.Basics.{and2, and-false, not-told, told-not}
 use Rattle.grammar.proofs.Fields.{num-field, at-field}
 use Rattle.grammar.specs.Ascii.{char}
 use Rattle.buffer.specs.declared.Cursor.{Cursor}
-use Rattle.buffer.specs.Put.{Puts, putBytes}
-use Rattle.buffer.proofs.Laws.{cursor, puts-as, puts-then}
+use Rattle.buffer.specs.Put.{Puts, putBytes, cursor}
+use Rattle.buffer.proofs.Laws.{puts-as, puts-then}
 use Rattle.dates.specs.Dates.{isDate, isTime}
 use Rattle.dates.specs.Digits.{dateText, timeText}
 use Rattle.decimal.proofs.Laws.{nine-digits}
-use Rattle.route.specs.Written.{Ours, mayWrite, numberLimit, stampText, routeLine, withRoute, addRoute, numberDigits}
-use Rattle.route_write.specs.Meaning.{fixedLength, addedIs}
+use Rattle.route.specs.Written.{OurHeader, mayWrite, numberLimit, stampText, routeLine, withRoute, addRoute, numberDigits}
+use Rattle.route_write.specs.Meaning.{lineFixedLength, addedIs}
 use Rattle.route_write.specs.declared.Added.{Added}
 
 -- ---------------------------------------------------------------- the fields
 
-module _ (o : Ours) (d : Bool) (e : d ≡ isDate (o .date)) where
+module _ (o : OurHeader) (d : Bool) (e : d ≡ isDate (o .date)) where
   pub no-date : not d ≡ true → false ≡ mayWrite o
   unfolding mayWrite
   no-date f = rw (told-not e f)
@@ -34,26 +34,26 @@ module _ (o : Ours) (d : Bool) (e : d ≡ isDate (o .date)) where
   module _ (f : not d ≡ false) (t : Bool) (g : t ≡ isTime (o .time)) where
     pub no-time : not t ≡ true → false ≡ mayWrite o
     unfolding mayWrite
-    no-time k = rw (told e f, told-not g k)
+    no-time k = rw (not-told e f, told-not g k)
 
     module _ (k : not t ≡ false) where
       pub no-number : numberLimit ≤ o .number → false ≡ mayWrite o
       unfolding mayWrite
-      no-number h = rw (told e f, told g k, le-ltb (o .number) numberLimit h)
+      no-number h = rw (not-told e f, not-told g k, le-ltb (o .number) numberLimit h)
 
       pub may-write : (r : Bool) → o .number < numberLimit → r ≡ isAt (o .mailbox) → r ≡ mayWrite o
       unfolding mayWrite
-      may-write r h i = rw (told e f, told g k, lt-ltb (o .number) numberLimit h) i
+      may-write r h i = rw (not-told e f, not-told g k, lt-ltb (o .number) numberLimit h) i
 
-fields : (o : Ours) → mayWrite o ≡ true → (ltb (o .number) numberLimit ≡ true) × (isAt (o .mailbox) ≡ true)
+fields : (o : OurHeader) → mayWrite o ≡ true → (ltb (o .number) numberLimit ≡ true) × (isAt (o .mailbox) ≡ true)
 unfolding mayWrite
 fields o e = and2 (ltb (o .number) numberLimit) (isAt (o .mailbox)) ((and2 (isDate (o .date) && isTime (o .time)) (ltb (o .number) numberLimit && isAt (o .mailbox)) e) .1)
 
 -- ---------------------------------------------------------------- the line
 
 -- A bound that our line keeps, with room to spare.
-abbrev pub lineBound : ℕ
-lineBound = 64
+abbrev pub routeLineBound : ℕ
+routeLineBound = 64
 
 pub digit-count : (bytes : Bytes) (start n : ℕ) → length bytes ≡ decimalDigits → start ≤ decimalDigits → drop start bytes ≡ decimal n → n < numberLimit → decimalDigits - start ≡ length (writeNum numberDigits n)
 digit-count bytes start n k s e h =
@@ -62,10 +62,10 @@ digit-count bytes start n k s e h =
     let b = length-drop start bytes in
     omega (arith, f, a, b, k, s)
 
-pub line-count : (bytes : Bytes) (start n m : ℕ) → length bytes ≡ decimalDigits → start ≤ decimalDigits → drop start bytes ≡ decimal n → n < numberLimit → fixedLength + (decimalDigits - start) + m ≡ fixedLength + length (writeNum numberDigits n) + m
-line-count bytes start n m k s e h = ap (λ (i : ℕ). fixedLength + i + m) (digit-count bytes start n k s e h)
+pub line-count : (bytes : Bytes) (start n m : ℕ) → length bytes ≡ decimalDigits → start ≤ decimalDigits → drop start bytes ≡ decimal n → n < numberLimit → lineFixedLength + (decimalDigits - start) + m ≡ lineFixedLength + length (writeNum numberDigits n) + m
+line-count bytes start n m k s e h = ap (λ (i : ℕ). lineFixedLength + i + m) (digit-count bytes start n k s e h)
 
-module _ (d : Bytes) (c : Cursor) (o : Ours) (stamp number : Bytes) (s : stamp ≡ stampText (o .date) (o .time)) (n : number ≡ writeNum numberDigits (o .number)) where
+module _ (d : Bytes) (c : Cursor) (o : OurHeader) (stamp number : Bytes) (s : stamp ≡ stampText (o .date) (o .time)) (n : number ≡ writeNum numberDigits (o .number)) where
   route-text : ((stamp ++ number) ++ (char "@" ∷ [])) ++ (o .mailbox ++ (CR ∷ [])) ≡ routeLine o ++ (CR ∷ [])
   unfolding routeLine
   route-text = rw (s, n) (simp append-assoc)
@@ -76,7 +76,7 @@ module _ (d : Bytes) (c : Cursor) (o : Ours) (stamp number : Bytes) (s : stamp �
 
 -- ---------------------------------------------------------------- the whole
 
-route-length : (o : Ours) (body : Bytes) → fixedLength + length (writeNum numberDigits (o .number)) + length (o .mailbox) + length body ≡ length (withRoute o body)
+route-length : (o : OurHeader) (body : Bytes) → lineFixedLength + length (writeNum numberDigits (o .number)) + length (o .mailbox) + length body ≡ length (withRoute o body)
 unfolding withRoute routeLine stampText dateText timeText
 route-length o body = simp length-append (omega arith)
 
@@ -85,45 +85,45 @@ put-start : (d p : Bytes) → length p ≤ length d → putBytes d (cursor 0 0) 
 unfolding putBytes
 put-start d p h = rw (sub-zero (length d), take-all (length d) p h) (let z : 0 + length p ≡ length p = omega arith in rw z)
 
-pub bad-field : (d : Bytes) (o : Ours) (body : Bytes) (m : Bool) → m ≡ mayWrite o → not m ≡ true → addedIs Added.BadField d ≡ addRoute d o body
+pub bad-field : (d : Bytes) (o : OurHeader) (body : Bytes) (m : Bool) → m ≡ mayWrite o → not m ≡ true → addedIs Added.BadField d ≡ addRoute d o body
 unfolding addRoute
 bad-field d o body m e f = rw (told-not e f)
 
-module _ (d : Bytes) (o : Ours) (body : Bytes) (m : Bool) (e : m ≡ mayWrite o) (f : not m ≡ false) where
+module _ (d : Bytes) (o : OurHeader) (body : Bytes) (m : Bool) (e : m ≡ mayWrite o) (f : not m ≡ false) where
   pub number-small : o .number < numberLimit
-  number-small = ltb-true (o .number) numberLimit ((fields o (told e f)) .0)
+  number-small = ltb-true (o .number) numberLimit ((fields o (not-told e f)) .0)
 
-  too-long : bodyLimit < length (withRoute o body) → addedIs Added.NoRoom d ≡ addRoute d o body
+  too-long : bodyMax < length (withRoute o body) → addedIs Added.NoRoom d ≡ addRoute d o body
   unfolding addRoute
-  too-long h = rw (told e f, lt-leb _ _ h)
+  too-long h = rw (not-told e f, lt-leb _ _ h)
 
-  pub body-long : bodyLimit < length body → addedIs Added.NoRoom d ≡ addRoute d o body
+  pub body-long : bodyMax < length body → addedIs Added.NoRoom d ≡ addRoute d o body
   body-long h = too-long (omega (arith, h, route-length o body))
 
-  module _ (line : ℕ) (g : line ≡ fixedLength + length (writeNum numberDigits (o .number)) + length (o .mailbox)) where
-    pub line-small : line ≤ lineBound
+  module _ (line : ℕ) (g : line ≡ lineFixedLength + length (writeNum numberDigits (o .number)) + length (o .mailbox)) where
+    pub line-small : line ≤ routeLineBound
     line-small =
         let a = (num-field (numberDigits - 1) (o .number)) .most in
-        let b = (at-field (o .mailbox) ((fields o (told e f)) .1)) .most in
+        let b = (at-field (o .mailbox) ((fields o (not-told e f)) .1)) .most in
         omega (arith, g, a, b)
 
     whole : line + length body ≡ length (withRoute o body)
     whole = omega (arith, g, route-length o body)
 
-    pub text-long : bodyLimit < line + length body → addedIs Added.NoRoom d ≡ addRoute d o body
+    pub text-long : bodyMax < line + length body → addedIs Added.NoRoom d ≡ addRoute d o body
     text-long h = too-long (omega (arith, h, whole))
 
     pub buffer-short : length d < line + length body → addedIs Added.NoRoom d ≡ addRoute d o body
     unfolding addRoute
     buffer-short h =
         let k : length d < length (withRoute o body) = omega (arith, h, whole) in
-        rw (told e f, and-false (leb (length (withRoute o body)) bodyLimit) (leb (length (withRoute o body)) (length d)) (lt-leb _ _ k))
+        rw (not-told e f, and-false (leb (length (withRoute o body)) bodyMax) (leb (length (withRoute o body)) (length d)) (lt-leb _ _ k))
 
-    pub wrote : {c r : Cursor} {d₁ d₂ : Bytes} → line + length body ≤ bodyLimit → line + length body ≤ length d
+    pub wrote : {c r : Cursor} {d₁ d₂ : Bytes} → line + length body ≤ bodyMax → line + length body ≤ length d
         → Puts d (cursor 0 0) (routeLine o ++ (CR ∷ [])) c d₁ → Puts d₁ c body r d₂ → addedIs (Added.Written (line + length body)) d₂ ≡ addRoute d o body
     unfolding addRoute withRoute
     wrote h k p q =
-        let a : length (withRoute o body) ≤ bodyLimit = omega (arith, h, whole) in
+        let a : length (withRoute o body) ≤ bodyMax = omega (arith, h, whole) in
         let b : length (withRoute o body) ≤ length d = omega (arith, k, whole) in
         let t = puts-as d (cursor 0 0) (append-assoc (routeLine o) (CR ∷ []) body) (puts-then d (cursor 0 0) _ _ p q) in
-        rw (told e f, le-leb _ _ a, le-leb _ _ b, whole, t .1 ∙ put-start d (withRoute o body) b)
+        rw (not-told e f, le-leb _ _ a, le-leb _ _ b, whole, t .1 ∙ put-start d (withRoute o body) b)

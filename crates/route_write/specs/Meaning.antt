@@ -12,19 +12,19 @@ use Rattle.route_write.specs.declared.Added.{Added}
 use Rattle.route.specs.Routes.{stampLength}
 
 -- What our line has beside its number and mailbox: the stamp with `z` and a space, `@`, CR.
-abbrev pub fixedLength : ℕ
-fixedLength = stampLength + length (text "z ") + length (text "@\r")
+abbrev pub lineFixedLength : ℕ
+lineFixedLength = stampLength + length (text "z ") + length (text "@\r")
 
 -- The bytes of our line, its CR included.
 abbrev pub lineLength : ℕ → Bytes → ℕ
-lineLength n w = fixedLength + length (writeNum route.numberDigits n) + length w
+lineLength n w = lineFixedLength + length (writeNum route.numberDigits n) + length w
 
-abbrev pub oursIs : Date → Time → ℕ → Bytes → route.Ours
+abbrev pub oursIs : Date → Time → ℕ → Bytes → route.OurHeader
 oursIs d t n w = record { date = dateIs d; time = timeIs t; number = n; mailbox = w }
 
 -- The writer's own numbers: 0 written, 1 a field or time outside the rules, 2 no room.
 abbrev pub addedNumber : Added → ℕ
-addedNumber (Added.Written n) = route.written
+addedNumber (Added.Written n) = route.routeWritten
 addedNumber Added.BadField = route.badField
 addedNumber Added.NoRoom = route.noRoom
 

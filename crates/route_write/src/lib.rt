@@ -21,7 +21,7 @@ ghost use Rattle.route_write.specs.Meaning.{lineLength, oursIs, addedIs}
 // A number has nine digits at most.
 const NUMBER_LIMIT: u32 = 1000000000;
 
-const BODY_LIMIT: usize = places::BODY_MAX as usize;
+const BODY_MAX: usize = places::BODY_MAX as usize;
 
 // What our line has beside its number and mailbox: the stamp with `z` and a space, `@`, CR.
 const FIXED_LENGTH: usize = STAMP + 2;
@@ -125,11 +125,11 @@ pub fn add_route(
     if !may_write(date, time, number, mailbox) {
         return Added::BadField;
     }
-    if BODY_LIMIT < body.len() {
+    if BODY_MAX < body.len() {
         return Added::NoRoom;
     }
     let whole = line_length(number, mailbox) + body.len();
-    if BODY_LIMIT < whole {
+    if BODY_MAX < whole {
         return Added::NoRoom;
     }
     if out.len() < whole {

@@ -7,19 +7,19 @@ use native.Mathlib.Omega.{arith}
 use lib.ListN.{length, take, drop, length-take}
 use lib.Seq.{drop-drop, take-take, take-nil}
 use Rattle.grammar.specs.Bytes.{Bytes}
-use Rattle.span.specs.Places.{between, part}
+use Rattle.span.specs.Places.{bytesBetween, part, Lies}
 use Rattle.span.specs.declared.Span.{Span}
-use Rattle.text_line.specs.Places.{lineAt, lineBytes, linesBy}
+use Rattle.text_line.specs.Places.{textLineAt, lineBytes, linesBy}
 use Rattle.text_line.specs.declared.TextLine.{TextLine}
 use Rattle.text_line.specs.declared.NextLine.{NextLine}
 use Rattle.text_line.proofs.Laws as lines
 use Rattle.route.specs.Routes as routes
 use Rattle.route.specs.Routes.{readHeader, headersOf, routeOf, originOf}
 use Rattle.route.proofs.Back.{elseOurs, origin-cons}
-use Rattle.route_read.specs.Meaning.{Lies, headerIn, routeSaid, RouteLies}
+use Rattle.route_read.specs.Meaning.{headerIn, routeSaid, RouteLies}
 use Rattle.route_read.specs.declared.Header.{Header}
 use Rattle.route_read.specs.declared.Route.{Route}
-use Rattle.routes.specs.Meaning.{headersBy, HopLies, NextIs}
+use Rattle.routes.specs.Meaning.{headersBy, HopLies, NextHeaderIs}
 use Rattle.routes.specs.declared.Hop.{Hop}
 use Rattle.routes.specs.declared.NextHeader.{NextHeader}
 
@@ -31,14 +31,14 @@ cut-inside n (suc a) k [] h = rw (take-nil n)
 cut-inside zero (suc a) k (y ∷ x) h = let z : ⊥ = omega arith in absurd z
 cut-inside (suc n) (suc a) k (y ∷ x) h = cut-inside n a k x (omega arith)
 
-module _ (body : Bytes) (start end : ℕ) (m : Span) (h : start ≤ end) (k : end ≤ length body) (l : Lies (between body start end) m) where
+module _ (body : Bytes) (start end : ℕ) (m : Span) (h : start ≤ end) (k : end ≤ length body) (l : Lies (bytesBetween body start end) m) where
   within-line : start + m .end ≤ end
   within-line = let n = length-take (end - start) (drop start body) in let j = l .1 in omega (arith, n, j)
 
   pub in-body : Lies body (record { start = start + m .start; end = start + m .end })
   in-body = let w = within-line in let i = l .0 in (omega (arith, i), omega (arith, w, k))
 
-  pub same-mailbox : between body (start + m .start) (start + m .end) ≡ part (between body start end) m
+  pub same-mailbox : bytesBetween body (start + m .start) (start + m .end) ≡ part (bytesBetween body start end) m
   same-mailbox =
       let w = within-line in
       let i = l .0 in
@@ -47,22 +47,22 @@ module _ (body : Bytes) (start end : ℕ) (m : Span) (h : start ≤ end) (k : en
 
 -- ---------------------------------------------------------------- the next header
 
-module _ (body : Bytes) (at : ℕ) (r : NextLine) (e : r ≡ lineAt body at) where
-  pub line-lies : (t : TextLine) → r ≡ NextLine.Line t → lines.Lies body at (NextLine.Line t)
-  line-lies t q = subst (lines.Lies body at) (sym e ∙ q) (lines.line-lies body at)
+module _ (body : Bytes) (at : ℕ) (r : NextLine) (e : r ≡ textLineAt body at) where
+  pub line-lies : (t : TextLine) → r ≡ NextLine.Line t → lines.TextLineLies body at (NextLine.Line t)
+  line-lies t q = subst (lines.TextLineLies body at) (sym e ∙ q) (lines.line-lies body at)
 
   pub no-line : r ≡ NextLine.End → [] ≡ routeOf (drop at body)
   unfolding routeOf
   no-line q = ap headersOf (sym (ap (linesBy body) (sym e ∙ q)) ∙ lines.line-means body at)
 
   module _ (t : TextLine) (q : r ≡ NextLine.Line t) where
-    by-line : routes.followed (readHeader (lineBytes body t)) (routeOf (drop (t .next) body)) ≡ routeOf (drop at body)
+    by-line : routes.headerThen (readHeader (lineBytes body t)) (routeOf (drop (t .next) body)) ≡ routeOf (drop at body)
     unfolding routeOf
     by-line = ap headersOf (sym (ap (linesBy body) (sym e ∙ q)) ∙ lines.line-means body at)
 
     module _ (s : Route) (k : routeSaid (lineBytes body t) s ≡ readHeader (lineBytes body t)) where
       pub not-header : s ≡ Route.NotHeader → [] ≡ routeOf (drop at body)
-      not-header i = ap (λ (o : Option routes.Header). routes.followed o (routeOf (drop (t .next) body))) (sym (ap (routeSaid (lineBytes body t)) i) ∙ k) ∙ by-line
+      not-header i = ap (λ (o : Option routes.Header). routes.headerThen o (routeOf (drop (t .next) body))) (sym (ap (routeSaid (lineBytes body t)) i) ∙ k) ∙ by-line
 
       module _ (j : RouteLies (lineBytes body t) s) (h : Header) (i : s ≡ Route.Is h) where
         pub mailbox-lies : Lies (lineBytes body t) (h .mailbox)
@@ -92,7 +92,7 @@ module _ (body : Bytes) (at : ℕ) (r : NextLine) (e : r ≡ lineAt body at) whe
         unfolding moved
         hop-is =
             ap (λ (g : routes.Header). g ∷ routeOf (drop (t .next) body)) same-header
-            ∙ ap (λ (o : Option routes.Header). routes.followed o (routeOf (drop (t .next) body))) (sym (ap (routeSaid (lineBytes body t)) i) ∙ k)
+            ∙ ap (λ (o : Option routes.Header). routes.headerThen o (routeOf (drop (t .next) body))) (sym (ap (routeSaid (lineBytes body t)) i) ∙ k)
             ∙ by-line
 
 -- ---------------------------------------------------------------- the origin
@@ -110,7 +110,7 @@ over : (w : Bytes) (o f : Option Bytes) → elseFound (elseOurs w o) f ≡ elseF
 over w none f = refl
 over w (some v) f = refl
 
-module _ (body : Bytes) (at : ℕ) (r : NextHeader) (e : NextIs body at r) (f : Option Bytes) where
+module _ (body : Bytes) (at : ℕ) (r : NextHeader) (e : NextHeaderIs body at r) (f : Option Bytes) where
   pub origin-end : r ≡ NextHeader.End → f ≡ elseFound (originOf (routeOf (drop at body))) f
   unfolding originOf
   origin-end q = ap (λ (hs : List routes.Header). elseFound (originOf hs) f) (sym (ap (headersBy body) q) ∙ e .0)

@@ -5,9 +5,9 @@ use mathlib.Core.List.{List, [], _∷_}
 use Prim.Native.Nat.{ℕ, _<_, _≤_}
 use lib.ListN.{length, drop}
 use Rattle.grammar.specs.Bytes.{Bytes}
-use Rattle.span.specs.Places.{part}
+use Rattle.span.specs.Places.{part, Lies}
 use Rattle.route.specs.Routes.{Header, routeOf, originOf}
-use Rattle.route_read.specs.Meaning.{Lies, headerIn}
+use Rattle.route_read.specs.Meaning.{headerIn}
 use Rattle.routes.specs.declared.NextHeader.{NextHeader}
 use Rattle.routes.specs.declared.Origin.{Origin}
 
@@ -21,8 +21,8 @@ abbrev pub HopLies : Bytes → ℕ → NextHeader → Type 0
 HopLies body at NextHeader.End = Unit {0}
 HopLies body at (NextHeader.Is h) = Lies body (h .header .mailbox) × (at < h .next) × (h .next ≤ length body)
 
-abbrev pub NextIs : Bytes → ℕ → NextHeader → Type 0
-NextIs body at r = (headersBy body r ≡ routeOf (drop at body)) × HopLies body at r
+abbrev pub NextHeaderIs : Bytes → ℕ → NextHeader → Type 0
+NextHeaderIs body at r = (headersBy body r ≡ routeOf (drop at body)) × HopLies body at r
 
 abbrev pub originSaid : Bytes → Origin → Option Bytes
 originSaid body Origin.Nowhere = none

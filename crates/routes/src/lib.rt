@@ -7,7 +7,7 @@ use text_line::NextLine;
 use text_line::next_line;
 ghost use mathlib.Core.Path.{_≡_};
 ghost use Rattle.route.specs.Routes.{routeOf, originOf};
-ghost use Rattle.routes.specs.Meaning.{NextIs, OriginIs};
+ghost use Rattle.routes.specs.Meaning.{NextHeaderIs, OriginIs};
 
 // A header, its mailbox by the place in the body, and the place from which the next one is read.
 pub struct Hop {
@@ -29,7 +29,7 @@ pub enum Origin {
 
 // The header at a place: 0, or next of the header before.
 pub fn next_header(body: &[u8], at: usize) -> NextHeader
-    ensures { λ r. ⌜ NextIs (now (body .entry)) at r ⌝ }
+    ensures { λ r. ⌜ NextHeaderIs (now (body .entry)) at r ⌝ }
 {
     match next_line(body, at) {
         NextLine::End => NextHeader::End,

@@ -77,36 +77,36 @@ pub data EndsBlock (raw : Bytes) (t : TurnLine) : Type 0 where
   summed : (h : ℕ) → t ≡ endsSummed h → sumRight raw h ≡ true → EndsBlock raw t
 
 -- What a line that is no comment comes to.
-pub data Judged (E : Shelf) (m : Memory) (ln : Bytes) : Awaited → Outcome → Type 0 where
-  isWrong : {a : Awaited} (n : ℕ) → Wrong m ln a n → Judged E m ln a (refuses n)
+pub data LineOutcome (E : Shelf) (m : Memory) (ln : Bytes) : Awaited → Outcome → Type 0 where
+  isWrong : {a : Awaited} (n : ℕ) → Wrong m ln a n → LineOutcome E m ln a (refuses n)
   hearsSid : (c : Bool) (fs : List ℕ) → readSid (trim ln) ≡ some fs → hasFeature letterF fs ≡ true
-      → Judged E m ln (awaitsSid c) (goesOn (afterSid c) (withSid fs m) [])
-  hearsText : isPrompt (trim ln) ≡ false → Judged E m ln awaitsPrompt (goesOn (aLine awaitsPrompt) m [])
-  hearsPrompt : isPrompt (trim ln) ≡ true → Judged E m ln awaitsPrompt (ourTurn E (ourSignOn m) false m)
+      → LineOutcome E m ln (awaitsSid c) (goesOn (afterSid c) (withSid fs m) [])
+  hearsText : isPrompt (trim ln) ≡ false → LineOutcome E m ln awaitsPrompt (goesOn (aLine awaitsPrompt) m [])
+  hearsPrompt : isPrompt (trim ln) ≡ true → LineOutcome E m ln awaitsPrompt (ourTurn E (ourSignOn m) false m)
   hearsProposal : (ff : Bool) (ps : List Proposal) {raw : Bytes} (q : Proposal) → readTurnLine (m .framed) (trim ln) ≡ proposes q
-      → ltb (length ps) blockLimit ≡ true → Judged E m ln (awaitsTurn ff ps raw) (goesOn (aLine (awaitsTurn ff (ps ++ (q ∷ [])) (raw ++ withCr ln))) m [])
-  hearsFF : {raw : Bytes} → readTurnLine (m .framed) (trim ln) ≡ saysFF → Judged E m ln (awaitsTurn false [] raw) (ourTurn E [] true (turnMarks m))
-  hearsFQ : {raw : Bytes} → readTurnLine (m .framed) (trim ln) ≡ saysFQ → Judged E m ln (awaitsTurn true [] raw) (goesOn over m [])
+      → ltb (length ps) blockLimit ≡ true → LineOutcome E m ln (awaitsTurn ff ps raw) (goesOn (aLine (awaitsTurn ff (ps ++ (q ∷ [])) (raw ++ withCr ln))) m [])
+  hearsFF : {raw : Bytes} → readTurnLine (m .framed) (trim ln) ≡ saysFF → LineOutcome E m ln (awaitsTurn false [] raw) (ourTurn E [] true (turnMarks m))
+  hearsFQ : {raw : Bytes} → readTurnLine (m .framed) (trim ln) ≡ saysFQ → LineOutcome E m ln (awaitsTurn true [] raw) (goesOn over m [])
   hearsEnd : (ff : Bool) (p : Proposal) (ps : List Proposal) {raw : Bytes} → EndsBlock raw (readTurnLine (m .framed) (trim ln))
-      → Judged E m ln (awaitsTurn ff (p ∷ ps) raw) (answered E (p ∷ ps) (turnMarks m))
+      → LineOutcome E m ln (awaitsTurn ff (p ∷ ps) raw) (answered E (p ∷ ps) (turnMarks m))
   hearsFs : (is : List ℕ) (ss : List Sign) → readFs (levelInForce m) (length is) (trim ln) ≡ some ss
-      → Judged E m ln (awaitsAnswer is) (goesOn (newTurn false) (answerMarks is ss m) (transfersText (E .table) (accepted ss is)))
+      → LineOutcome E m ln (awaitsAnswer is) (goesOn (newTurn false) (answerMarks is ss m) (transfersText (E .table) (accepted ss is)))
 
 module _ (E : Shelf) (m : Memory) (ln : Bytes) where
-  sid-way : (c : Bool) (o : Option (List ℕ)) → readSid (trim ln) ≡ o → Judged E m ln (awaitsSid c) (sidJudged c m o)
+  sid-way : (c : Bool) (o : Option (List ℕ)) → readSid (trim ln) ≡ o → LineOutcome E m ln (awaitsSid c) (sidJudged c m o)
   sid-way c none e = isWrong notSid (noSid c e)
   sid-way c (some fs) e = go (hasFeature letterF fs) refl
     where
-      go : (d : Bool) → hasFeature letterF fs ≡ d → Judged E m ln (awaitsSid c) (cond d (goesOn (afterSid c) (withSid fs m) []) (refuses noForwarding))
+      go : (d : Bool) → hasFeature letterF fs ≡ d → LineOutcome E m ln (awaitsSid c) (cond d (goesOn (afterSid c) (withSid fs m) []) (refuses noForwarding))
       go true f = hearsSid c fs e f
       go false f = isWrong noForwarding (noF c fs e f)
 
-  text-way : (c : Bool) → isPrompt (trim ln) ≡ c → Judged E m ln awaitsPrompt (textJudged E c m)
+  text-way : (c : Bool) → isPrompt (trim ln) ≡ c → LineOutcome E m ln awaitsPrompt (textJudged E c m)
   text-way true e = hearsPrompt e
   text-way false e = hearsText e
 
   turn-way : (t : TurnLine) (ff : Bool) (ps : List Proposal) (raw : Bytes) → readTurnLine (m .framed) (trim ln) ≡ t
-      → Judged E m ln (awaitsTurn ff ps raw) (turnJudged E t ff ps raw ln m)
+      → LineOutcome E m ln (awaitsTurn ff ps raw) (turnJudged E t ff ps raw ln m)
   turn-way saysFF true [] raw e = isWrong lineNotAllowed (ffAfterFf e)
   turn-way saysFF false [] raw e = hearsFF e
   turn-way saysFF ff (p ∷ ps) raw e = isWrong lineNotAllowed (ffInBlock ff p ps e)
@@ -118,24 +118,24 @@ module _ (E : Shelf) (m : Memory) (ln : Bytes) where
   turn-way (endsSummed h) ff [] raw e = isWrong proposalCount (emptySummed ff h e)
   turn-way (endsSummed h) ff (p ∷ ps) raw e = go (sumRight raw h) refl
     where
-      go : (c : Bool) → sumRight raw h ≡ c → Judged E m ln (awaitsTurn ff (p ∷ ps) raw) (cond c (answered E (p ∷ ps) (turnMarks m)) (refuses wrongBlockSum))
+      go : (c : Bool) → sumRight raw h ≡ c → LineOutcome E m ln (awaitsTurn ff (p ∷ ps) raw) (cond c (answered E (p ∷ ps) (turnMarks m)) (refuses wrongBlockSum))
       go true f = hearsEnd ff p ps (summed h e f)
       go false f = isWrong wrongBlockSum (wrongHex ff p ps h e f)
   turn-way notAllowed ff ps raw e = isWrong lineNotAllowed (noTurnLine ff ps e)
   turn-way (proposes q) ff ps raw e = go (ltb (length ps) blockLimit) refl
     where
       go : (c : Bool) → ltb (length ps) blockLimit ≡ c
-          → Judged E m ln (awaitsTurn ff ps raw) (cond c (goesOn (aLine (awaitsTurn ff (ps ++ (q ∷ [])) (raw ++ withCr ln))) m []) (refuses proposalCount))
+          → LineOutcome E m ln (awaitsTurn ff ps raw) (cond c (goesOn (aLine (awaitsTurn ff (ps ++ (q ∷ [])) (raw ++ withCr ln))) m []) (refuses proposalCount))
       go true f = hearsProposal ff ps q e f
       go false f = isWrong proposalCount (tooMany ff ps q e f)
 
   answer-way : (is : List ℕ) (o : Option (List Sign)) → readFs (levelInForce m) (length is) (trim ln) ≡ o
-      → Judged E m ln (awaitsAnswer is) (answerJudged E is m (fsNumber (levelInForce m) (length is) (trim ln)) o)
+      → LineOutcome E m ln (awaitsAnswer is) (answerJudged E is m (fsNumber (levelInForce m) (length is) (trim ln)) o)
   answer-way is none e = isWrong (fsNumber (levelInForce m) (length is) (trim ln)) (noAnswer is e)
   answer-way is (some ss) e = hearsFs is ss e
 
   -- ALL THAT A LINE COMES TO
-  pub judged : (a : Awaited) → Judged E m ln a (awaitedJudged E a m ln)
+  pub judged : (a : Awaited) → LineOutcome E m ln a (awaitedJudged E a m ln)
   judged (awaitsSid c) = sid-way c (readSid (trim ln)) refl
   judged awaitsPrompt = text-way (isPrompt (trim ln)) refl
   judged (awaitsTurn ff ps raw) = turn-way (readTurnLine (m .framed) (trim ln)) ff ps raw refl
@@ -152,7 +152,7 @@ module _ (E : Shelf) (a : Awaited) (m : Memory) (ln : Bytes) where
 -- ---------------------------------------------------------------- a byte
 
 -- The rule of the phase decides: the byte is not dropped, and nothing waits for give.
-pub record At (s : Session) (b : ℕ) (p : Phase) : Type 0 where
+pub record RuleDecides (s : Session) (b : ℕ) (p : Phase) : Type 0 where
   pub kept : s .afterCr && eqb b LF ≡ false
   pub silent : s .out ≡ []
   pub awaited : s .phase ≡ p
@@ -160,12 +160,12 @@ pub record At (s : Session) (b : ℕ) (p : Phase) : Type 0 where
 -- Why a byte is refused, but for what a whole line says, and the number.
 pub data Why (E : Shelf) (s : Session) (b : ℕ) : ℕ → Type 0 where
   waits : s .afterCr && eqb b LF ≡ false → null (s .out) ≡ false → Why E s b bytesWait
-  hasLeft : At s b leaving → Why E s b sessionEnded
-  isOver : At s b over → Why E s b sessionEnded
-  tooLong : (a : Awaited) → At s b (aLine a) → eqb b CR ≡ false → ltb (length (s .part)) lineLimit ≡ false → Why E s b lineTooLong
-  unread : (p : Proposal) (ps : List Proposal) (sc : Scan) → At s b (awaitsTransfer p ps sc) → scanByte (roomFor E (s .memory)) sc b ≡ malformed → Why E s b badTransfer
-  unsummed : (p : Proposal) (ps : List Proposal) (sc : Scan) → At s b (awaitsTransfer p ps sc) → scanByte (roomFor E (s .memory)) sc b ≡ wrongSum → Why E s b badChecksum
-  unkept : (p : Proposal) (ps : List Proposal) (sc : Scan) → At s b (awaitsTransfer p ps sc) → scanByte (roomFor E (s .memory)) sc b ≡ noRoom → Why E s b storeFull
+  hasLeft : RuleDecides s b leaving → Why E s b sessionEnded
+  isOver : RuleDecides s b over → Why E s b sessionEnded
+  tooLong : (a : Awaited) → RuleDecides s b (aLine a) → eqb b CR ≡ false → ltb (length (s .part)) lineLimit ≡ false → Why E s b lineTooLong
+  unread : (p : Proposal) (ps : List Proposal) (sc : Scan) → RuleDecides s b (awaitsTransfer p ps sc) → scanByte (roomFor E (s .memory)) sc b ≡ malformed → Why E s b badTransfer
+  unsummed : (p : Proposal) (ps : List Proposal) (sc : Scan) → RuleDecides s b (awaitsTransfer p ps sc) → scanByte (roomFor E (s .memory)) sc b ≡ wrongSum → Why E s b badChecksum
+  unkept : (p : Proposal) (ps : List Proposal) (sc : Scan) → RuleDecides s b (awaitsTransfer p ps sc) → scanByte (roomFor E (s .memory)) sc b ≡ noRoom → Why E s b storeFull
 
 -- no refusal has the number 0
 pub why-number : (E : Shelf) (s : Session) (b n : ℕ) → Why E s b n → n ≡ 0 → ⊥
@@ -185,24 +185,24 @@ pub data Noted (E : Shelf) (a : Awaited) (m : Memory) (ln : Bytes) : Terms → T
 pub data Way (E : Shelf) (s : Session) (b : ℕ) : Stepped → Type 0 where
   isRefused : (n : ℕ) → s .afterCr && eqb b LF ≡ false → Why E s b n → Way E s b (refused s n)
   dropsLf : s .afterCr && eqb b LF ≡ true → Way E s b (moved (withAfterCr false s))
-  growsLine : (a : Awaited) → At s b (aLine a) → eqb b CR ≡ false → ltb (length (s .part)) lineLimit ≡ true
+  growsLine : (a : Awaited) → RuleDecides s b (aLine a) → eqb b CR ≡ false → ltb (length (s .part)) lineLimit ≡ true
       → Way E s b (moved (withPart (s .part ++ (b ∷ [])) (withAfterCr false s)))
-  ignoresLine : (a : Awaited) → At s b (aLine a) → eqb b CR ≡ true → isComment (trim (s .part)) ≡ true → (t : Terms) → Noted E a (s .memory) (s .part) t
+  ignoresLine : (a : Awaited) → RuleDecides s b (aLine a) → eqb b CR ≡ true → isComment (trim (s .part)) ≡ true → (t : Terms) → Noted E a (s .memory) (s .part) t
       → Way E s b (moved (between (aLine a) true [] (withTerms t (s .memory))))
-  hearsLine : (a : Awaited) → At s b (aLine a) → eqb b CR ≡ true → isComment (trim (s .part)) ≡ false
-      → (o : Outcome) → Judged E (s .memory) (s .part) a o → Way E s b (settled s true o)
-  readsOn : (p : Proposal) (ps : List Proposal) (sc on : Scan) → At s b (awaitsTransfer p ps sc) → scanByte (roomFor E (s .memory)) sc b ≡ goes on
+  hearsLine : (a : Awaited) → RuleDecides s b (aLine a) → eqb b CR ≡ true → isComment (trim (s .part)) ≡ false
+      → (o : Outcome) → LineOutcome E (s .memory) (s .part) a o → Way E s b (settled s true o)
+  readsOn : (p : Proposal) (ps : List Proposal) (sc on : Scan) → RuleDecides s b (awaitsTransfer p ps sc) → scanByte (roomFor E (s .memory)) sc b ≡ goes on
       → Way E s b (moved (withPhase (awaitsTransfer p ps on) (withAfterCr false s)))
-  readsLast : (p : Proposal) (ps : List Proposal) (sc : Scan) (h x : Bytes) → At s b (awaitsTransfer p ps sc) → scanByte (roomFor E (s .memory)) sc b ≡ got h x
+  readsLast : (p : Proposal) (ps : List Proposal) (sc : Scan) (h x : Bytes) → RuleDecides s b (awaitsTransfer p ps sc) → scanByte (roomFor E (s .memory)) sc b ≡ got h x
       → Way E s b (settled s (isPlain (kindDue (s .memory) p)) (nextTransfer E ps (keptIn (s .memory) (messageOf p (record { heading = h; body = x })))))
 
 module _ (E : Shelf) (s : Session) (b : ℕ) where
   -- ALL THAT A LINE THAT BEGINS WITH `;` COMES TO
-  comment-way : (a : Awaited) → At s b (aLine a) → eqb b CR ≡ true → isComment (trim (s .part)) ≡ true
+  comment-way : (a : Awaited) → RuleDecides s b (aLine a) → eqb b CR ≡ true → isComment (trim (s .part)) ≡ true
       → Way E s b (settled s true (commentJudged E a (s .memory) (s .part)))
   comment-way a w x z = ignoresLine a w x z _ asBefore
 
-  line-way : (a : Awaited) → At s b (aLine a) → (c d e : Bool) → eqb b CR ≡ c → ltb (length (s .part)) lineLimit ≡ d → isComment (trim (s .part)) ≡ e
+  line-way : (a : Awaited) → RuleDecides s b (aLine a) → (c d e : Bool) → eqb b CR ≡ c → ltb (length (s .part)) lineLimit ≡ d → isComment (trim (s .part)) ≡ e
       → Way E s b
       (lineMoved E a s b (cond c ends (cond d grows overruns)))
   line-way a w true d e x y z = go e z
@@ -213,7 +213,7 @@ module _ (E : Shelf) (s : Session) (b : ℕ) where
   line-way a w false true e x y z = growsLine a w x y
   line-way a w false false e x y z = isRefused lineTooLong (w .kept) (tooLong a w x y)
 
-  transfer-way : (p : Proposal) (ps : List Proposal) (sc : Scan) → At s b (awaitsTransfer p ps sc) → (r : Scanned) → scanByte (roomFor E (s .memory)) sc b ≡ r
+  transfer-way : (p : Proposal) (ps : List Proposal) (sc : Scan) → RuleDecides s b (awaitsTransfer p ps sc) → (r : Scanned) → scanByte (roomFor E (s .memory)) sc b ≡ r
       → Way E s b (transferMoved E p ps s r)
   transfer-way p ps sc w (goes on) e = readsOn p ps sc on w e
   transfer-way p ps sc w (got h x) e = readsLast p ps sc h x w e
@@ -221,7 +221,7 @@ module _ (E : Shelf) (s : Session) (b : ℕ) where
   transfer-way p ps sc w wrongSum e = isRefused badChecksum (w .kept) (unsummed p ps sc w e)
   transfer-way p ps sc w noRoom e = isRefused storeFull (w .kept) (unkept p ps sc w e)
 
-  phase-way : (p : Phase) → At s b p → Way E s b (phaseStep E p s b)
+  phase-way : (p : Phase) → RuleDecides s b p → Way E s b (phaseStep E p s b)
   phase-way (aLine a) w = line-way a w (eqb b CR) (ltb (length (s .part)) lineLimit) (isComment (trim (s .part))) refl refl refl
   phase-way (awaitsTransfer p ps sc) w = transfer-way p ps sc w (scanByte (roomFor E (s .memory)) sc b) refl
   phase-way leaving w = isRefused sessionEnded (w .kept) (hasLeft w)

@@ -5,7 +5,7 @@ use Prim.Native.Nat.{ℕ, suc, _+_, _-_}
 use lib.Dec.{eqb, ltb}
 use lib.ListN.{length, getD}
 use Rattle.grammar.specs.Bytes.{Bytes}
-use Rattle.grammar.specs.Fields.{sameBid, bodyLimit}
+use Rattle.grammar.specs.Fields.{sameBid, bodyMax}
 use Rattle.grammar.specs.Turns.{Proposal, inMode, ourBlock}
 use Rattle.grammar.specs.Answers.{Sign, accept, decline, defer}
 use Rattle.mail.specs.Mail.{Record, Message, recordAt}
@@ -74,7 +74,7 @@ haveBid E inbox acc b =
 -- "else `=` if the size is over 65,535, or over the free store less the sizes accepted in this block, or no inbox place is free for it"
 abbrev pub noRoomFor : Shelf → List Message → List Proposal → ℕ → Bool
 noRoomFor E inbox acc size =
-    ltb bodyLimit size || (ltb (E .bytes - bodyBytes inbox - announced acc) size || not (ltb (length inbox + length acc) (E .places)))
+    ltb bodyMax size || (ltb (E .bytes - bodyBytes inbox - announced acc) size || not (ltb (length inbox + length acc) (E .places)))
 
 -- "else `+`"; acc: those accepted earlier in this block
 abbrev pub signFor : Shelf → List Message → List Proposal → Proposal → Sign

@@ -14,8 +14,8 @@ use Rattle.session.specs.Reasons.{protocol}
 -- ---------------------------------------------------------------- the table
 
 -- five packed messages, which one block proposes, and a plain text
-abbrev pub packets : Shelf
-packets =
+abbrev pub packedShelf : Shelf
+packedShelf =
     shelfWith
     (letter message (text "M1") 1 (text "a") ∷ letter message (text "M2") 1 (text "b") ∷ letter message (text "M3") 1 (text "c")
     ∷ letter message (text "M4") 1 (text "d") ∷ letter message (text "M5") 1 (text "e") ∷ letter plain (text "P1") 1 (text "f") ∷ [])
@@ -40,8 +40,8 @@ answers sid fs sent states =
     ((0, length sid) ∷ (0, length fs) ∷ (0, 3) ∷ []) (greeted ++ (fivePackets ++ (sent ++ text "FQ\r"))) states [] true
 
 -- The same, and the line is refused with 7: we say why, and no answer of it is recorded.
-abbrev pub refusedAt : Bytes → Bytes → Trial
-refusedAt sid fs =
+abbrev pub refusedTrial : Bytes → Bytes → Trial
+refusedTrial sid fs =
     trial false (takes 99 ∷ hears sid ∷ takes 99 ∷ hears fs ∷ takes 99 ∷ [])
     ((0, length sid) ∷ (7, length fs) ∷ []) (greeted ++ (fivePackets ++ protocol)) sixWaiting [] true
 
@@ -64,20 +64,20 @@ atLevel1 =
 -- at level 1: a seventh digit, none, a byte that is no sign, one sign too few or too many
 abbrev pub refusedAtLevel1 : List Trial
 refusedAtLevel1 =
-    refusedAt (text "[TST-1-B1F$]\rFF\r") (text "FS A0000000----\r")
-    ∷ refusedAt (text "[TST-1-B1F$]\rFF\r") (text "FS Y!---\r")
-    ∷ refusedAt (text "[TST-1-B1F$]\rFF\r") (text "FS YZ---\r")
-    ∷ refusedAt (text "[TST-1-B1F$]\rFF\r") (text "FS YYYY\r")
-    ∷ refusedAt (text "[TST-1-B1F$]\rFF\r") (text "FS A1A2A3A4A5Y\r")
+    refusedTrial (text "[TST-1-B1F$]\rFF\r") (text "FS A0000000----\r")
+    ∷ refusedTrial (text "[TST-1-B1F$]\rFF\r") (text "FS Y!---\r")
+    ∷ refusedTrial (text "[TST-1-B1F$]\rFF\r") (text "FS YZ---\r")
+    ∷ refusedTrial (text "[TST-1-B1F$]\rFF\r") (text "FS YYYY\r")
+    ∷ refusedTrial (text "[TST-1-B1F$]\rFF\r") (text "FS A1A2A3A4A5Y\r")
     ∷ []
 
 -- B at level 0, said or not, and levels of other letters: 01's signs and no other. Without B the same.
 abbrev pub atLevel0 : List Trial
 atLevel0 =
     answers (text "[TST-1-BF$]\rFF\r") (text "FS +-===\r") (packet 97 159) (1 ∷ 2 ∷ 0 ∷ 0 ∷ 0 ∷ 0 ∷ [])
-    ∷ refusedAt (text "[TST-1-BF$]\rFF\r") (text "FS Y----\r")
-    ∷ refusedAt (text "[TST-1-B0F$]\rFF\r") (text "FS ----h\r")
-    ∷ refusedAt (text "[TST-1-BF1$]\rFF\r") (text "FS A0----\r")
+    ∷ refusedTrial (text "[TST-1-BF$]\rFF\r") (text "FS Y----\r")
+    ∷ refusedTrial (text "[TST-1-B0F$]\rFF\r") (text "FS ----h\r")
+    ∷ refusedTrial (text "[TST-1-BF1$]\rFF\r") (text "FS A0----\r")
     ∷ plainWith (text "FS Y\r") 7 protocol true
     ∷ plainWith (text "FS +\r") 0 (text "T\rf\u{1a}\r") false
     ∷ []

@@ -9,7 +9,7 @@ use lib.Dec.{eqb, ltb}
 use lib.ListN.{length, set, replicate}
 use Rattle.grammar.specs.Bytes.{Bytes, LF, null}
 use Rattle.grammar.specs.Refusals.{notSid, noForwarding, lineNotAllowed, proposalCount, bytesWait, sessionEnded, wrongBlockSum}
-use Rattle.grammar.specs.Fields.{bodyLimit}
+use Rattle.grammar.specs.Fields.{bodyMax}
 use Rattle.grammar.specs.Lines.{LineByte, dropped, ends, grows, overruns, lineByte, lineByteNumber, trim, isComment, isPrompt}
 use Rattle.grammar.specs.Sid as sid
 use Rattle.grammar.specs.Sid.{readSid, hasFeature, letterF}
@@ -203,7 +203,7 @@ afterSid false = newTurn false
 
 -- "Partner has B: framed mode, at any level. Otherwise plain mode."; "the level in force is the lower of the two, 0 without B" (02, Q-6)
 abbrev pub withSid : List ℕ → Memory → Memory
-withSid fs m = withTerms (withLevel (sid.levelInForce fs) (m .terms)) (withFramed (sid.framed fs) m)
+withSid fs m = withTerms (withLevel (sid.levelOfSid fs) (m .terms)) (withFramed (sid.framed fs) m)
 
 abbrev pub sidJudged : Bool → Memory → Option (List ℕ) → Outcome
 sidJudged caller m none = refuses notSid
@@ -283,7 +283,7 @@ transferMoved E p ps s noRoom = refused s (scannedNumber noRoom)
 
 -- "body byte without room, the 65,536th included": what the store has left for the message under way
 abbrev pub roomFor : Shelf → Memory → ℕ
-roomFor E m = min bodyLimit (E .bytes - bodyBytes (m .inbox))
+roomFor E m = min bodyMax (E .bytes - bodyBytes (m .inbox))
 
 abbrev pub lineStep : Shelf → Awaited → Session → ℕ → Stepped
 lineStep E a s b = lineMoved E a s b (lineByte false (length (s .part)) b)

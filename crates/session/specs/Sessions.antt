@@ -20,12 +20,12 @@ pub data Move : Type 0 where
   takes : ℕ → Move
 
 -- Answer and count of each receive, our bytes that the link took, and the session at the end.
-pub record Played : Type 0 where
+pub record MovesPlayed : Type 0 where
   pub answers : List (ℕ × ℕ)
   pub said : Bytes
   pub session : Session
 
-abbrev pub played : Shelf → Session → List Move → Played
+abbrev pub played : Shelf → Session → List Move → MovesPlayed
 played E s [] = record { answers = []; said = []; session = s }
 played E s (hears bs ∷ ms) =
     let r = receive E s bs in
@@ -36,21 +36,21 @@ played E s (takes n ∷ ms) =
     record { answers = p .answers; said = handedOut s n ++ p .said; session = p .session }
 
 -- What is left of it: the last receive's answer and count stand first.
-pub record Left : Type 0 where
+pub record TrialLeaves : Type 0 where
   pub answers : List (ℕ × ℕ)
   pub said : Bytes
   pub states : List ℕ
   pub kept : List Message
   pub over : Bool
 
-abbrev pub leftOf : Played → Left
-leftOf p =
+abbrev pub trialLeaves : MovesPlayed → TrialLeaves
+trialLeaves p =
     record { answers = p .answers; said = p .said; states = p .session .memory .states; kept = p .session .memory .inbox; over = ended (p .session) }
 
 pub record Trial : Type 0 where
   pub caller : Bool
   pub moves : List Move
-  pub left : Left
+  pub left : TrialLeaves
 
 -- ---------------------------------------------------------------- the table
 
@@ -72,11 +72,11 @@ waiting = 0 ∷ 0 ∷ 0 ∷ 0 ∷ 0 ∷ []
 abbrev pub greeted : Bytes
 greeted = text "[NOD-1-B1FH$]\r>\r"
 
-abbrev pub block : Bytes
-block = text "FB P A B C X1 1345\rFB P A B C X2 5346\rFB P A B C X3 8548\rF>\r"
+abbrev pub threeProposals : Bytes
+threeProposals = text "FB P A B C X1 1345\rFB P A B C X2 5346\rFB P A B C X3 8548\rF>\r"
 
-abbrev pub kept : Form → Bytes → Bytes → Bytes → Message
-kept f bid heading body = record { form = f; type = 66; from = text "D"; at = text "E"; to = text "F"; bid = bid; heading = heading; body = body }
+abbrev pub keptMessage : Form → Bytes → Bytes → Bytes → Message
+keptMessage f bid heading body = record { form = f; type = 66; from = text "D"; at = text "E"; to = text "F"; bid = bid; heading = heading; body = body }
 
 -- ---------------------------------------------------------------- the sessions
 
@@ -96,27 +96,27 @@ abbrev pub trials : List Trial
 trials =
     -- three are proposed; declined, accepted and deferred; the accepted one is forwarded at the partner's FF, and then the fourth is proposed
     called (hears (text "FF\r") ∷ takes 99 ∷ hears (text "FS -+=\r") ∷ takes 99 ∷ hears (text "FF\r") ∷ takes 99 ∷ [])
-    ((0, 3) ∷ (0, 7) ∷ (0, 3) ∷ []) (block ++ text "T\rb\u{1a}\rFB P A B C X4 1\rF>\r") (2 ∷ 1 ∷ 0 ∷ 0 ∷ 0 ∷ []) [] false
+    ((0, 3) ∷ (0, 7) ∷ (0, 3) ∷ []) (threeProposals ++ text "T\rb\u{1a}\rFB P A B C X4 1\rF>\r") (2 ∷ 1 ∷ 0 ∷ 0 ∷ 0 ∷ []) [] false
     -- the link has not taken the last byte: 11, and nothing is forwarded
     ∷ called (hears (text "FF\r") ∷ takes 99 ∷ hears (text "FS -+=\r") ∷ takes 4 ∷ hears (text "FF\r") ∷ takes 99 ∷ [])
-    ((0, 3) ∷ (0, 7) ∷ (11, 1) ∷ []) (block ++ text "T\rb\u{1a}") (2 ∷ 0 ∷ 0 ∷ 0 ∷ 0 ∷ []) [] true
+    ((0, 3) ∷ (0, 7) ∷ (11, 1) ∷ []) (threeProposals ++ text "T\rb\u{1a}") (2 ∷ 0 ∷ 0 ∷ 0 ∷ 0 ∷ []) [] true
     -- FQ straight after our transfers is not allowed, and marks nothing
     ∷ called (hears (text "FF\r") ∷ takes 99 ∷ hears (text "FS +-+\r") ∷ takes 99 ∷ hears (text "FQ\r") ∷ [])
-    ((0, 3) ∷ (0, 7) ∷ (5, 3) ∷ []) (block ++ text "T\ra\u{1a}\rT\rc\u{1a}\r") (0 ∷ 2 ∷ 0 ∷ 0 ∷ 0 ∷ []) [] true
+    ((0, 3) ∷ (0, 7) ∷ (5, 3) ∷ []) (threeProposals ++ text "T\ra\u{1a}\rT\rc\u{1a}\r") (0 ∷ 2 ∷ 0 ∷ 0 ∷ 0 ∷ []) [] true
     -- nor does the first FB line of the partner's turn; its F> does, and our answer says what we have, what has no room, and what we take
     ∷ called
     (hears (text "FF\r") ∷ takes 99 ∷ hears (text "FS ++=\r") ∷ takes 99 ∷ hears (text "FB B D E F Y1 2\rFB B D E F K1 1\r") ∷ [])
-    ((0, 3) ∷ (0, 7) ∷ (0, 32) ∷ []) (block ++ text "T\ra\u{1a}\rT\rb\u{1a}\r") waiting [] false
+    ((0, 3) ∷ (0, 7) ∷ (0, 32) ∷ []) (threeProposals ++ text "T\ra\u{1a}\rT\rb\u{1a}\r") waiting [] false
     ∷ called
     (hears (text "FF\r") ∷ takes 99 ∷ hears (text "FS ++=\r") ∷ takes 99
     ∷ hears (text "fb b D E F Y1 2\rFB B D E F K1 1\rFB B D E F Y1 1\rFB B D E F Y2 2\rFB  B D E F Y3 01\r\n;\rf>  \r\n") ∷ takes 99
     ∷ hears (text "U\r\nv\u{1a}  \r\nW\ry\u{1a}\r\n") ∷ takes 99 ∷ hears (text "FF\r") ∷ [])
     ((0, 3) ∷ (0, 7) ∷ (0, 91) ∷ (0, 15) ∷ (5, 3) ∷ [])
-    (block ++ text "T\ra\u{1a}\rT\rb\u{1a}\rFS +--=+\rFB P A B C X4 1\rF>\r") (1 ∷ 1 ∷ 0 ∷ 0 ∷ 0 ∷ [])
-    (kept plain (text "Y1") (text "U") (text "\nv") ∷ kept plain (text "Y3") (text "W") (text "y") ∷ []) true
+    (threeProposals ++ text "T\ra\u{1a}\rT\rb\u{1a}\rFS +--=+\rFB P A B C X4 1\rF>\r") (1 ∷ 1 ∷ 0 ∷ 0 ∷ 0 ∷ [])
+    (keptMessage plain (text "Y1") (text "U") (text "\nv") ∷ keptMessage plain (text "Y3") (text "W") (text "y") ∷ []) true
     -- a body byte without room, and a first body of two bytes that was kept
     ∷ called (hears (text "FB B D E F Y1 2\rFB B D E F Y2 1\rF>\r") ∷ takes 99 ∷ hears (text "U\rvw\u{1a}\rU\rxy") ∷ [])
-    ((0, 35) ∷ (10, 10) ∷ []) (text "FS ++\r") waiting (kept plain (text "Y1") (text "U") (text "vw") ∷ []) true
+    ((0, 35) ∷ (10, 10) ∷ []) (text "FS ++\r") waiting (keptMessage plain (text "Y1") (text "U") (text "vw") ∷ []) true
     -- as caller: text lines are skipped, then our SID and the file, by its name
     ∷ trial true (hears (text "[TST-1-BF$]\rGood day\r>\r") ∷ takes 99 ∷ hears (text "FS +\r") ∷ takes 99 ∷ hears (text "FF\r") ∷ takes 99 ∷ [])
     ((0, 23) ∷ (0, 5) ∷ (0, 3) ∷ [])
@@ -132,8 +132,8 @@ trials =
     -- 5 before 6, 6, 7
     ∷ called (hears (text "F>\r") ∷ []) ((6, 3) ∷ []) [] waiting [] true
     ∷ called (hears (text "FA B D E F Y1 1\r") ∷ []) ((5, 16) ∷ []) [] waiting [] true
-    ∷ called (hears (text "FF\r") ∷ takes 99 ∷ hears (text "FS -+\r") ∷ []) ((0, 3) ∷ (7, 6) ∷ []) block waiting [] true
-    ∷ called (hears (text "FF\r") ∷ takes 99 ∷ hears (text "FF\r") ∷ []) ((0, 3) ∷ (5, 3) ∷ []) block waiting [] true
+    ∷ called (hears (text "FF\r") ∷ takes 99 ∷ hears (text "FS -+\r") ∷ []) ((0, 3) ∷ (7, 6) ∷ []) threeProposals waiting [] true
+    ∷ called (hears (text "FF\r") ∷ takes 99 ∷ hears (text "FF\r") ∷ []) ((0, 3) ∷ (5, 3) ∷ []) threeProposals waiting [] true
     -- 8, 9: the message under way is not kept
     ∷ called (hears (text "FB B D E F Y1 1\rF>\r") ∷ takes 99 ∷ hears (text "\r") ∷ []) ((0, 19) ∷ (8, 1) ∷ []) (text "FS +\r") waiting [] true
     ∷ calledFramed (hears (text "FB B D E F Y1 1\rF>\r") ∷ takes 99 ∷ hears (1 ∷ 4 ∷ 85 ∷ 0 ∷ 48 ∷ 0 ∷ 2 ∷ 1 ∷ 101 ∷ 4 ∷ 156 ∷ 4 ∷ []) ∷ [])

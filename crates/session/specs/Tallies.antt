@@ -6,11 +6,11 @@ use Prim.Native.Nat.{ℕ, _-_}
 use Rattle.grammar.specs.Ascii.{text}
 use Rattle.grammar.specs.Fields.{plain}
 use Rattle.mail.specs.Mail.{Record}
-use Rattle.mail.specs.Tally.{waits, waitingBytes}
+use Rattle.mail.specs.Tally.{waitingCount, waitingBytes}
 use Rattle.session.specs.Choices.{Shelf, shelfWith}
 use Rattle.session.specs.Session.{Memory, opened}
-use Rattle.session.specs.Sessions.{Move, hears, takes, Played, played, letter, shelf, waiting}
-use Rattle.session.specs.Levels.{packets, sixWaiting}
+use Rattle.session.specs.Sessions.{Move, hears, takes, MovesPlayed, played, letter, shelf, waiting}
+use Rattle.session.specs.Levels.{packedShelf, sixWaiting}
 
 -- The answer of the last receive, and the numbers; unsettled: what the others leave of proposed.
 pub record Panel : Type 0 where
@@ -41,7 +41,7 @@ abbrev pub panelOf : List Record → ℕ → Memory → Panel
 panelOf T answer m =
     record {
       answer = answer;
-      waits = waits (m .states);
+      waits = waitingCount (m .states);
       bytes = waitingBytes T (m .states);
       proposed = m .counts .proposed;
       forwarded = m .counts .forwarded;
@@ -50,7 +50,7 @@ panelOf T answer m =
       unsettled = m .counts .proposed - m .counts .forwarded - m .counts .declined - m .counts .deferred;
     }
 
-abbrev pub playedOf : Sample → Played
+abbrev pub playedOf : Sample → MovesPlayed
 playedOf t = played (t .shelf) (opened (t .caller) (t .found)) (t .moves)
 
 abbrev pub panelAfter : Sample → Panel
@@ -76,8 +76,8 @@ abbrev pub three : List Move → Panel → Sample
 three ms x = sampleOf threeShelf (0 ∷ 0 ∷ 0 ∷ []) false (takes 99 ∷ hears (text "[TST-1-F$]\r") ∷ ms) x
 
 -- The partner's FF, our proposals taken, its FS line: the first declined, the second accepted, the third deferred; our transfer waits
-abbrev pub answered : List Move → List Move
-answered ms = hears (text "FF\r") ∷ takes 99 ∷ hears (text "FS -+=\r") ∷ ms
+abbrev pub proposedAndAnswered : List Move → List Move
+proposedAndAnswered ms = hears (text "FF\r") ∷ takes 99 ∷ hears (text "FS -+=\r") ∷ ms
 
 abbrev pub threeSamples : List Sample
 threeSamples =
@@ -87,24 +87,24 @@ threeSamples =
     ∷ three (hears (text "FF\r") ∷ []) (panel 0 3 15239 3 0 0 0 3)
     ∷ three (hears (text "FF\r") ∷ takes 5 ∷ takes 99 ∷ hears (text ";\rFS -+=") ∷ []) (panel 0 3 15239 3 0 0 0 3)
     -- at the FS line; while our transfer waits, and given; the deferred one waits and counts no more
-    ∷ three (answered []) (panel 0 2 13894 3 0 1 1 1)
-    ∷ three (answered (takes 99 ∷ [])) (panel 0 2 13894 3 0 1 1 1)
+    ∷ three (proposedAndAnswered []) (panel 0 2 13894 3 0 1 1 1)
+    ∷ three (proposedAndAnswered (takes 99 ∷ [])) (panel 0 2 13894 3 0 1 1 1)
     -- at the partner's FF, or its F>, and not at the first line of its turn
-    ∷ three (answered (takes 99 ∷ hears (text "FF\r") ∷ [])) (panel 0 1 8548 3 1 1 1 0)
-    ∷ three (answered (takes 99 ∷ hears (text "FB B D E F K1 1\r") ∷ [])) (panel 0 2 13894 3 0 1 1 1)
-    ∷ three (answered (takes 99 ∷ hears (text "FB B D E F K1 1\rF>\r") ∷ [])) (panel 0 1 8548 3 1 1 1 0)
+    ∷ three (proposedAndAnswered (takes 99 ∷ hears (text "FF\r") ∷ [])) (panel 0 1 8548 3 1 1 1 0)
+    ∷ three (proposedAndAnswered (takes 99 ∷ hears (text "FB B D E F K1 1\r") ∷ [])) (panel 0 2 13894 3 0 1 1 1)
+    ∷ three (proposedAndAnswered (takes 99 ∷ hears (text "FB B D E F K1 1\rF>\r") ∷ [])) (panel 0 1 8548 3 1 1 1 0)
     -- our FF and FQ count nothing, nor does the partner's FQ
-    ∷ three (answered (takes 99 ∷ hears (text "FB B D E F K1 1\rF>\r") ∷ takes 99 ∷ hears (text "FQ\r") ∷ [])) (panel 0 1 8548 3 1 1 1 0)
-    ∷ three (answered (takes 99 ∷ hears (text "FF\r") ∷ takes 99 ∷ hears (text "FF\r") ∷ [])) (panel 12 1 8548 3 1 1 1 0)
+    ∷ three (proposedAndAnswered (takes 99 ∷ hears (text "FB B D E F K1 1\rF>\r") ∷ takes 99 ∷ hears (text "FQ\r") ∷ [])) (panel 0 1 8548 3 1 1 1 0)
+    ∷ three (proposedAndAnswered (takes 99 ∷ hears (text "FF\r") ∷ takes 99 ∷ hears (text "FF\r") ∷ [])) (panel 12 1 8548 3 1 1 1 0)
     -- "After a refusal the numbers stay at their last state.": 11 while our transfer waits, while our turn does; the line that says why is given
-    ∷ three (answered (takes 4 ∷ hears (text "F") ∷ takes 99 ∷ hears (text "FF\r") ∷ [])) (panel 12 2 13894 3 0 1 1 1)
-    ∷ three (answered (takes 4 ∷ hears (text "F") ∷ [])) (panel 11 2 13894 3 0 1 1 1)
+    ∷ three (proposedAndAnswered (takes 4 ∷ hears (text "F") ∷ takes 99 ∷ hears (text "FF\r") ∷ [])) (panel 12 2 13894 3 0 1 1 1)
+    ∷ three (proposedAndAnswered (takes 4 ∷ hears (text "F") ∷ [])) (panel 11 2 13894 3 0 1 1 1)
     ∷ three (hears (text "FF\rF") ∷ []) (panel 11 3 15239 3 0 0 0 3)
     -- 5, 6 and 13 in a turn after our transfers; FQ where it isn't allowed; 7 and 5 where FS is awaited
-    ∷ three (answered (takes 99 ∷ hears (text "FB B D E F Y1 2\rFX\r") ∷ takes 99 ∷ [])) (panel 5 2 13894 3 0 1 1 1)
-    ∷ three (answered (takes 99 ∷ hears (text "F>\r") ∷ [])) (panel 6 2 13894 3 0 1 1 1)
-    ∷ three (answered (takes 99 ∷ hears (text "FB B D E F Y1 1\rF> DE\r") ∷ takes 99 ∷ [])) (panel 13 2 13894 3 0 1 1 1)
-    ∷ three (answered (takes 99 ∷ hears (text "FQ\r") ∷ [])) (panel 5 2 13894 3 0 1 1 1)
+    ∷ three (proposedAndAnswered (takes 99 ∷ hears (text "FB B D E F Y1 2\rFX\r") ∷ takes 99 ∷ [])) (panel 5 2 13894 3 0 1 1 1)
+    ∷ three (proposedAndAnswered (takes 99 ∷ hears (text "F>\r") ∷ [])) (panel 6 2 13894 3 0 1 1 1)
+    ∷ three (proposedAndAnswered (takes 99 ∷ hears (text "FB B D E F Y1 1\rF> DE\r") ∷ takes 99 ∷ [])) (panel 13 2 13894 3 0 1 1 1)
+    ∷ three (proposedAndAnswered (takes 99 ∷ hears (text "FQ\r") ∷ [])) (panel 5 2 13894 3 0 1 1 1)
     ∷ three (hears (text "FF\r") ∷ takes 99 ∷ hears (text "FS -+\r") ∷ []) (panel 7 3 15239 3 0 0 0 3)
     ∷ three (hears (text "FF\r") ∷ takes 99 ∷ hears (text "FF\r") ∷ []) (panel 5 3 15239 3 0 0 0 3)
     -- our turn with the CR of an F> of which we accept nothing, with the last byte of the partner's transfer, and as caller with the prompt's CR
@@ -124,12 +124,12 @@ threeSamples =
 abbrev pub otherSamples : List Sample
 otherSamples =
     -- a fourth record, proposed with the same byte that forwards the second; the file waits too, and plain mode never sends it
-    sampleOf shelf waiting false (takes 99 ∷ hears (text "[TST-1-F$]\r") ∷ answered (takes 99 ∷ hears (text "FF\r") ∷ [])) (panel 0 3 8550 4 1 1 1 1)
-    ∷ sampleOf shelf waiting false (takes 99 ∷ hears (text "[TST-1-F$]\r") ∷ answered (takes 99 ∷ hears (text "FF\r") ∷ takes 99 ∷ hears (text "FS -\r") ∷ []))
+    sampleOf shelf waiting false (takes 99 ∷ hears (text "[TST-1-F$]\r") ∷ proposedAndAnswered (takes 99 ∷ hears (text "FF\r") ∷ [])) (panel 0 3 8550 4 1 1 1 1)
+    ∷ sampleOf shelf waiting false (takes 99 ∷ hears (text "[TST-1-F$]\r") ∷ proposedAndAnswered (takes 99 ∷ hears (text "FF\r") ∷ takes 99 ∷ hears (text "FS -\r") ∷ []))
     (panel 0 2 8549 4 1 2 1 0)
     -- 02, Q-6: H accepts, R declines, E and an offset over 0 defer, an offset of 0 accepts
-    ∷ sampleOf packets sixWaiting false (takes 99 ∷ hears (text "[TST-1-B1F$]\rFF\r") ∷ takes 99 ∷ hears (text "FS HRE!5A0\r") ∷ []) (panel 0 5 5 5 0 1 2 2)
-    ∷ sampleOf packets sixWaiting false (takes 99 ∷ hears (text "[TST-1-B1F$]\rFF\r") ∷ takes 99 ∷ hears (text "FS HRE!5A0\r") ∷ takes 99 ∷ hears (text "FF\r") ∷ [])
+    ∷ sampleOf packedShelf sixWaiting false (takes 99 ∷ hears (text "[TST-1-B1F$]\rFF\r") ∷ takes 99 ∷ hears (text "FS HRE!5A0\r") ∷ []) (panel 0 5 5 5 0 1 2 2)
+    ∷ sampleOf packedShelf sixWaiting false (takes 99 ∷ hears (text "[TST-1-B1F$]\rFF\r") ∷ takes 99 ∷ hears (text "FS HRE!5A0\r") ∷ takes 99 ∷ hears (text "FF\r") ∷ [])
     (panel 0 3 3 5 2 1 2 0)
     ∷ []
 

@@ -9,7 +9,7 @@ use native.Mathlib.Nat.{add-assoc}
 use lib.Dec.{eqb}
 use lib.ListN.{length, take, drop, getD, replicate, length-append, length-drop, length-replicate, drop-of-length-le}
 use lib.Seq.{take-append-seam, take-append-add, take-at, take-all, drop-append-add, drop-drop, length-take-le}
-use Rattle.grammar.specs.Bytes.{Bytes, wordValues, every, twoByteValues, fourByteValues}
+use Rattle.grammar.specs.Bytes.{Bytes, wordValues, every, twoByteValues, fourByteValues, flag}
 use Rattle.grammar.specs.Transfers.{partOf}
 use Rattle.grammar.proofs.Basics.{octet}
 use Rattle.grammar.specs.Turns.{blockLimit}
@@ -29,7 +29,7 @@ use Rattle.session_memory.specs.Session.{Reading}
 use Rattle.session_memory.specs.Session.{Line}
 use Rattle.session_memory.specs.Session.{Session}
 use Rattle.session_memory.specs.declared.Sizes.{Sizes}
-use Rattle.session_memory.specs.State.{at, held, fiveOf, flag, fiveAt, arrayAt, loadAwait, loadSay, loadKeep, loadReading, loadLine, loadTally, loadOf, loadSizes, smallOut, numbersOut, tailOut, arraysTail, arraysOut, numberPart, saveOf, sizesOut, saveSizes}
+use Rattle.session_memory.specs.State.{cursorAt, held, fiveOf, fiveAt, arrayAt, loadAwait, loadSay, loadKeep, loadReading, loadLine, loadTally, loadOf, loadSizes, smallOut, numbersOut, tailOut, arraysTail, arraysOut, numberPart, saveOf, sizesOut, saveSizes}
 
 -- ---------------------------------------------------------------- a state in shape: arrays of their sizes, numbers that fit their bytes
 
@@ -68,24 +68,24 @@ pub record Shaped (s : Session) : Type 0 where
 
 -- ---------------------------------------------------------------- arrays
 
-put-over : (d p : Bytes) → length p ≡ length d → putBytes d (at 0) p ≡ p
+put-over : (d p : Bytes) → length p ≡ length d → putBytes d (cursorAt 0) p ≡ p
 put-over d p h = put-fits d 0 p (omega arith) ∙ rw (drop-of-length-le d {i = 0 + length p} (omega arith)) (append-nil p)
 
 pub array-length : (n : ℕ) (sm : Bytes) (a : ℕ) → length (arrayAt n sm a) ≡ n
-array-length n sm a = put-length (replicate n 0) (at 0) (partOf sm a n) ∙ length-replicate n 0
+array-length n sm a = put-length (replicate n 0) (cursorAt 0) (partOf sm a n) ∙ length-replicate n 0
 
 pub array-in : (n : ℕ) (sm : Bytes) (a : ℕ) → a + n ≤ length sm → arrayAt n sm a ≡ take n (drop a sm)
 array-in n sm a h =
-    ap (putBytes (replicate n 0) (at 0)) (part-in sm a n h)
+    ap (putBytes (replicate n 0) (cursorAt 0)) (part-in sm a n h)
     ∙ put-over (replicate n 0) (take n (drop a sm)) (length-take-le n (drop a sm) (simp length-drop (omega arith)) ∙ sym (length-replicate n 0))
 
 -- an array behind a piece l of k bytes, and one that stands first
 pub array-skip : (n : ℕ) (l r : Bytes) (k : ℕ) → length l ≡ k → (b : ℕ) → arrayAt n (l ++ r) (k + b) ≡ arrayAt n r b
-array-skip n l r k h b = ap (putBytes (replicate n 0) (at 0)) (part-skip l r k h b n)
+array-skip n l r k h b = ap (putBytes (replicate n 0) (cursorAt 0)) (part-skip l r k h b n)
 
 pub array-here : (n : ℕ) (p r : Bytes) → length p ≡ n → arrayAt n (p ++ r) 0 ≡ p
 array-here n p r h =
-    ap (putBytes (replicate n 0) (at 0)) (part-here p r n h) ∙ put-over (replicate n 0) p (h ∙ sym (length-replicate n 0))
+    ap (putBytes (replicate n 0) (cursorAt 0)) (part-here p r n h) ∙ put-over (replicate n 0) p (h ∙ sym (length-replicate n 0))
 
 -- ---------------------------------------------------------------- up to five numbers
 
@@ -166,7 +166,7 @@ module _ (f g t : Bytes) (n : length f ≡ numbersStart) (k : length g ≡ freeL
       array-skip m f rest numbersStart n (numbersLen + (freeLen + b))
       ∙ array-skip m (numberPart s) (g ++ (arraysOut s ++ t)) numbersLen (part-length s) (freeLen + b)
       ∙ array-skip m g (arraysOut s ++ t) freeLen k b
-      ∙ ap (putBytes (replicate m 0) (at 0)) (part-front (arraysOut s) t b m (omega (arith, arrays-length s h)))
+      ∙ ap (putBytes (replicate m 0) (cursorAt 0)) (part-front (arraysOut s) t b m (omega (arith, arrays-length s h)))
 
   -- the arrays behind each other
   deferred-back : arrayAt deferredLen (f ++ rest) (arraysAt + deferredAt) ≡ s .keep .deferred
@@ -268,7 +268,7 @@ module _ (f g t : Bytes) (n : length f ≡ numbersStart) (k : length g ≡ freeL
 
 pub save-length : (sm : Bytes) (s : Session) → length (saveOf sm s) ≡ length sm
 unfolding saveOf
-save-length sm s = put-length (putBytes sm (at numbersStart) (numberPart s)) (at arraysAt) (arraysOut s) ∙ put-length sm (at numbersStart) (numberPart s)
+save-length sm s = put-length (putBytes sm (cursorAt numbersStart) (numberPart s)) (cursorAt arraysAt) (arraysOut s) ∙ put-length sm (cursorAt numbersStart) (numberPart s)
 
 -- the mark and the sizes, and then what was put
 save-front : (sm : Bytes) (s : Session) → numbersStart ≤ length sm → (r : Bytes) × (saveOf sm s ≡ take numbersStart sm ++ r)
@@ -305,7 +305,7 @@ module _ (sm : Bytes) (s : Session) (n : length sm ≡ sessionLen) (a : length (
       let o = part-length s in
       let f : Bytes = take numbersStart sm ++ numberPart s in
       let r : Bytes = drop numbersEnd sm in
-      let d : Bytes = putBytes sm (at numbersStart) (numberPart s) in
+      let d : Bytes = putBytes sm (cursorAt numbersStart) (numberPart s) in
       let l : length f ≡ numbersEnd = length-append (take numbersStart sm) (numberPart s) ∙ (omega (arith, length-take-le numbersStart sm (omega arith))) in
       let e : d ≡ f ++ r =
       put-fits sm numbersStart (numberPart s) (omega arith) ∙ ap (λ (i : ℕ). take numbersStart sm ++ (numberPart s ++ drop i sm)) (ap (λ (i : ℕ). numbersStart + i) o)
@@ -313,7 +313,7 @@ module _ (sm : Bytes) (s : Session) (n : length sm ≡ sessionLen) (a : length (
       let front : take arraysAt (f ++ r) ≡ f ++ take freeLen r = ap (λ (i : ℕ). take i (f ++ r)) (sym (ap (λ (i : ℕ). i + freeLen) l)) ∙ take-append-add f r freeLen in
       let back : drop arraysEnd (f ++ r) ≡ drop arraysEnd sm =
       ap (λ (i : ℕ). drop i (f ++ r)) (sym (ap (λ (i : ℕ). i + (arraysEnd - numbersEnd)) l)) ∙ drop-append-add f r (arraysEnd - numbersEnd) ∙ drop-drop (arraysEnd - numbersEnd) numbersEnd sm in
-      put-fits d arraysAt (arraysOut s) (rw (put-length sm (at numbersStart) (numberPart s), n, a) (omega arith))
+      put-fits d arraysAt (arraysOut s) (rw (put-length sm (cursorAt numbersStart) (numberPart s), n, a) (omega arith))
       ∙ ap (λ (i : ℕ). take arraysAt d ++ (arraysOut s ++ drop i d)) (ap (λ (i : ℕ). arraysAt + i) a)
       ∙ ap (λ (x : Bytes). take arraysAt x ++ (arraysOut s ++ drop arraysEnd x)) e
       ∙ ap (λ (x : Bytes). x ++ (arraysOut s ++ drop arraysEnd (f ++ r))) front
@@ -326,14 +326,14 @@ module _ (sm : Bytes) (s : Session) (n : length sm ≡ sessionLen) (a : length (
   unfolding saveOf
   free-kept start len h k =
       let o = part-length s in
-      part-before (putBytes sm (at numbersStart) (numberPart s)) arraysAt (arraysOut s) (rw (put-length sm (at numbersStart) (numberPart s)) (omega arith)) start len k
+      part-before (putBytes sm (cursorAt numbersStart) (numberPart s)) arraysAt (arraysOut s) (rw (put-length sm (cursorAt numbersStart) (numberPart s)) (omega arith)) start len k
       ∙ part-after sm numbersStart (numberPart s) (omega arith) start len (omega arith)
 
   pub end-kept : (start len : ℕ) → arraysEnd ≤ start → partOf (saveOf sm s) start len ≡ partOf sm start len
   unfolding saveOf
   end-kept start len h =
       let o = part-length s in
-      part-after (putBytes sm (at numbersStart) (numberPart s)) arraysAt (arraysOut s) (rw (put-length sm (at numbersStart) (numberPart s)) (omega arith)) start len (omega arith)
+      part-after (putBytes sm (cursorAt numbersStart) (numberPart s)) arraysAt (arraysOut s) (rw (put-length sm (cursorAt numbersStart) (numberPart s)) (omega arith)) start len (omega arith)
       ∙ part-after sm numbersStart (numberPart s) (omega arith) start len (omega arith)
 
 -- WHAT IS SAVED IS LOADED
@@ -347,7 +347,7 @@ load-save sm s n h =
 
 pub sizes-length : (sm : Bytes) (z : Sizes) → length (saveSizes sm z) ≡ length sm
 unfolding saveSizes
-sizes-length sm z = put-length sm (at markAt) (sizesOut z)
+sizes-length sm z = put-length sm (cursorAt markAt) (sizesOut z)
 
 -- the sizes' numbers fit their bytes
 pub record Sized (z : Sizes) : Type 0 where

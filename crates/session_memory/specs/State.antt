@@ -1,11 +1,11 @@
 -- 01, "Session memory: bytes of one fixed size, written in docs/". The mark FM01 and the sizes that open kept, the numbers of the state, its
 -- arrays; bytes behind the numbers and behind the arrays are free, nobody reads or writes them. docs/MEMORY.md has the places as a table.
-use mathlib.Core.Bool.{Bool, true, false, cond}
+use mathlib.Core.Bool.{Bool, false, cond}
 use mathlib.Core.List.{List, [], _∷_, _++_}
 use Prim.Native.Nat.{ℕ, _+_, _-_}
 use lib.Dec.{eqb}
 use lib.ListN.{length, getD, take, replicate}
-use Rattle.grammar.specs.Bytes.{Bytes}
+use Rattle.grammar.specs.Bytes.{Bytes, flag}
 use Rattle.grammar.specs.Ascii.{text}
 use Rattle.grammar.specs.Transfers.{partOf}
 use Rattle.grammar.specs.Turns.{blockLimit}
@@ -29,12 +29,8 @@ use Rattle.session_memory.specs.Session.{Line}
 use Rattle.session_memory.specs.Session.{Session}
 use Rattle.session_memory.specs.declared.Sizes.{Sizes}
 
-abbrev pub at : ℕ → Cursor
-at n = record { at = n; skip = 0 }
-
-abbrev pub flag : Bool → ℕ
-flag true = 1
-flag false = 0
+abbrev pub cursorAt : ℕ → Cursor
+cursorAt n = record { at = n; skip = 0 }
 
 -- ---------------------------------------------------------------- up to five numbers
 
@@ -52,7 +48,7 @@ noFive = record { count = 0; items = replicate blockLimit 0 }
 
 -- n bytes from a place on; zeros where the memory ends before
 abbrev pub arrayAt : ℕ → Bytes → ℕ → Bytes
-arrayAt n sm a = putBytes (replicate n 0) (at 0) (partOf sm a n)
+arrayAt n sm a = putBytes (replicate n 0) (cursorAt 0) (partOf sm a n)
 
 abbrev pub fiveAt : Bytes → ℕ → Five
 fiveAt sm a = record { count = byteAt sm a; items = arrayAt blockLimit sm (a + 1) }
@@ -160,14 +156,14 @@ numberPart s = smallOut s ++ (numbersOut s ++ tailOut s)
 
 -- Session memory after the state is saved: its numbers, and its arrays. The mark and the sizes stay, and so does every free byte.
 unfoldable pub saveOf : Bytes → Session → Bytes
-saveOf sm s = putBytes (putBytes sm (at numbersStart) (numberPart s)) (at arraysAt) (arraysOut s)
+saveOf sm s = putBytes (putBytes sm (cursorAt numbersStart) (numberPart s)) (cursorAt arraysAt) (arraysOut s)
 
 unfoldable pub sizesOut : Sizes → Bytes
 sizesOut z =
     text "FM01" ++ (le8 (z .table) ++ (le8 (z .titles) ++ (le8 (z .names) ++ (le8 (z .bodies) ++ (le8 (z .known) ++ (le8 (z .inbox) ++ le8 (z .store)))))))
 
 unfoldable pub saveSizes : Bytes → Sizes → Bytes
-saveSizes sm z = putBytes sm (at markAt) (sizesOut z)
+saveSizes sm z = putBytes sm (cursorAt markAt) (sizesOut z)
 
 -- Nothing is settled before the partner's SID but who the partner is.
 abbrev pub termsWith : ℕ → Terms

@@ -6,7 +6,7 @@ use lib.ListN.{take}
 use borrow.Author.Tests.{eq-eqb, ne-eqb}
 use Rattle.grammar.specs.Bytes.{Bytes}
 use Rattle.sheet.specs.declared.Sheet.{Sheet}
-use Rattle.sheet.specs.Sheet.{proposedBy, forwardedBy, declinedBy, deferredBy}
+use Rattle.sheet.specs.Sheet.{countProposed, countForwarded, countDeclined, countDeferred}
 use Rattle.session_memory.specs.declared.Tally.{Tally}
 use Rattle.session_memory.specs.Session.{Await, Session}
 use Rattle.session_memory.specs.Setters.{withTally}
@@ -21,7 +21,7 @@ use Rattle.line_effect.specs.Judged.{Judged}
 use Rattle.line_effect.specs.Verdict.{judgedIn}
 use Rattle.our_turn.specs.Turn.{speakOf}
 use Rattle.receive_defined.specs.Receiving as whole
-use Rattle.receive_defined.specs.Receiving.{refusedOf, spokenOf, settled, markedBy, countedOf, settleOf}
+use Rattle.receive_defined.specs.Receiving.{refusedOf, spokenOf, lineDone, markedBy, countedOf, settleOf}
 use Rattle.receive_defined.specs.Tallied.{sheetMarked, proposesOf, recountedOf, talliedOf}
 use Rattle.settling.specs.After.{afterLine}
 
@@ -36,17 +36,17 @@ module _ (v : Verdict) (a : Bool) (m table : Bytes) {r : Numbers} where
 -- ---------------------------------------------------------------- what a judged line leaves
 
 module _ (j : Judged) (a : Bool) (t : Bytes) (x : Session) where
-  pub settle-no : (j .answer ≡ 0 → ⊥) → x ≡ refusedOf (j .answer) (j .next) → settled (j .answer) x t ≡ settleOf j a t
+  pub settle-no : (j .answer ≡ 0 → ⊥) → x ≡ refusedOf (j .answer) (j .next) → lineDone (j .answer) x t ≡ settleOf j a t
   unfolding settleOf
-  settle-no n e = rw (ne-eqb _ _ n) (ap (λ (y : Session). settled (j .answer) y t) e)
+  settle-no n e = rw (ne-eqb _ _ n) (ap (λ (y : Session). lineDone (j .answer) y t) e)
 
   -- k: what is counted
-  pub settle-yes : (u : Bytes) (k : Tally) → j .answer ≡ 0 → u ≡ markedBy j t → x ≡ spokenOf j a u → k ≡ talliedOf j (x .now) u → settled 0 (withTally k x) u ≡ settleOf j a t
+  pub settle-yes : (u : Bytes) (k : Tally) → j .answer ≡ 0 → u ≡ markedBy j t → x ≡ spokenOf j a u → k ≡ talliedOf j (x .now) u → lineDone 0 (withTally k x) u ≡ settleOf j a t
   unfolding settleOf
   settle-yes u k n e f g =
       rw (eq-eqb _ _ n)
-      (ap (λ (y : Tally). settled 0 (withTally y x) u) g ∙ ap (λ (y : Session). settled 0 (countedOf j u y) u) f
-      ∙ ap (λ (w : Bytes). settled 0 (countedOf j w (spokenOf j a w)) w) e)
+      (ap (λ (y : Tally). lineDone 0 (withTally y x) u) g ∙ ap (λ (y : Session). lineDone 0 (countedOf j u y) u) f
+      ∙ ap (λ (w : Bytes). lineDone 0 (countedOf j w (spokenOf j a w)) w) e)
 
 -- ---------------------------------------------------------------- what is counted
 
@@ -56,18 +56,18 @@ module _ (j : Judged) (w : Await) (u : Bytes) where
   recounted h = recountedOf (j .next .tally) (j .marks) (j .next .keep .terms .partner) u h
 
   pub tallied-are : {k : Tally} {marked sheet : Sheet} {n : ℕ} → marked ≡ sheetMarked (j .next .tally .sheet) (j .marks) → n ≡ proposesOf (j .speaks) w
-      → sheet ≡ proposedBy marked n → k ≡ recounted sheet → k ≡ talliedOf j w u
+      → sheet ≡ countProposed marked n → k ≡ recounted sheet → k ≡ talliedOf j w u
   unfolding talliedOf
   tallied-are {k} {marked} {sheet} {n} e₁ e₂ e₃ e₄ =
-      e₄ ∙ ap recounted (e₃ ∙ ap (λ (h : Sheet). proposedBy h n) e₁ ∙ ap (proposedBy (sheetMarked (j .next .tally .sheet) (j .marks))) e₂)
+      e₄ ∙ ap recounted (e₃ ∙ ap (λ (h : Sheet). countProposed h n) e₁ ∙ ap (countProposed (sheetMarked (j .next .tally .sheet) (j .marks))) e₂)
 
 -- the marks of a turn, of an FS line, and none
 module _ (h : Sheet) (m : Marks) where
-  pub marked-turn : {r : Sheet} → m .state ≡ stateForwarded → r ≡ forwardedBy h (m .places .count) → r ≡ sheetMarked h m
+  pub marked-turn : {r : Sheet} → m .state ≡ stateForwarded → r ≡ countForwarded h (m .places .count) → r ≡ sheetMarked h m
   marked-turn e f = rw (eq-eqb _ _ e) f
 
-  pub marked-answer : {r d : Sheet} → (m .state ≡ stateForwarded → ⊥) → m .state ≡ stateDeclined → d ≡ declinedBy h (m .places .count) → r ≡ deferredBy d (m .deferred) → r ≡ sheetMarked h m
-  marked-answer n e f g = rw (ne-eqb _ _ n, eq-eqb _ _ e) (g ∙ ap (λ (y : Sheet). deferredBy y (m .deferred)) f)
+  pub marked-answer : {r d : Sheet} → (m .state ≡ stateForwarded → ⊥) → m .state ≡ stateDeclined → d ≡ countDeclined h (m .places .count) → r ≡ countDeferred d (m .deferred) → r ≡ sheetMarked h m
+  marked-answer n e f g = rw (ne-eqb _ _ n, eq-eqb _ _ e) (g ∙ ap (λ (y : Sheet). countDeferred y (m .deferred)) f)
 
   pub marked-nothing : (m .state ≡ stateForwarded → ⊥) → (m .state ≡ stateDeclined → ⊥) → h ≡ sheetMarked h m
   marked-nothing n k = rw (ne-eqb _ _ n, ne-eqb _ _ k)

@@ -17,7 +17,7 @@ ghost use Rattle.grammar.specs.Bytes.{Bytes};
 ghost use Rattle.places.specs.Places.{arraysLen};
 ghost use Rattle.numbers.specs.Whole.{Arrays, awaitOf, wholeOf};
 ghost use Rattle.line_effect.specs.Verdict.{judgedIn};
-ghost use Rattle.receive_defined.specs.Receiving.{refusedOf, spokenOf, settled, settleOf};
+ghost use Rattle.receive_defined.specs.Receiving.{refusedOf, spokenOf, lineDone, settleOf};
 ghost use Rattle.receive_defined.specs.Tallied.{sheetMarked, proposesOf, recountedOf};
 ghost use Rattle.settling.specs.After.{afterLine};
 
@@ -117,7 +117,7 @@ fn showing(s: Numbers, tally: Tally) -> Numbers
 // What a judged line or a kept message leaves: marks first, then our turn. mem: the state's arrays after it.
 pub fn settle(v: Verdict, after_cr: bool, mem: &[u8], table: &mut [u8]) -> Left
     requires { ⌜ length (now mem) ≡ arraysLen ⌝ }
-    ensures { λ r. ⌜ settled (r .answer) (wholeOf (r .session) (now (mem .entry))) (now (table .exit)) ≡ settleOf (judgedIn v (now (mem .entry))) «after_cr» (now (table .entry)) ⌝ }
+    ensures { λ r. ⌜ lineDone (r .answer) (wholeOf (r .session) (now (mem .entry))) (now (table .exit)) ≡ settleOf (judgedIn v (now (mem .entry))) «after_cr» (now (table .entry)) ⌝ }
 {
     let next = v.next;
     if v.answer != refusal::NONE {

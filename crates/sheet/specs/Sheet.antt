@@ -8,26 +8,22 @@ use Rattle.sheet.specs.declared.Sheet.{Sheet}
 abbrev pub noSheet : Sheet
 noSheet = record { proposed = 0; forwarded = 0; declined = 0; deferred = 0; unsettled = 0 }
 
--- How many numbers a byte has: the grammar's number, by this name for the sheet.
-abbrev pub byteRange : ℕ
-byteRange = byteValues
-
 abbrev pub more : ℕ → ℕ → ℕ
-more x n = (x + n) % byteRange
+more x n = (x + n) % byteValues
 
 abbrev pub less : ℕ → ℕ → ℕ
-less x n = (x + byteRange - n) % byteRange
+less x n = (x + byteValues - n) % byteValues
 
 -- n records were proposed: their FS line hasn't come.
-abbrev pub proposedBy : Sheet → ℕ → Sheet
-proposedBy s n = record { proposed = more (s .proposed) n; forwarded = s .forwarded; declined = s .declined; deferred = s .deferred; unsettled = more (s .unsettled) n }
+abbrev pub countProposed : Sheet → ℕ → Sheet
+countProposed s n = record { proposed = more (s .proposed) n; forwarded = s .forwarded; declined = s .declined; deferred = s .deferred; unsettled = more (s .unsettled) n }
 
 -- n of them were forwarded, declined, deferred: so many fewer are not settled.
-abbrev pub forwardedBy : Sheet → ℕ → Sheet
-forwardedBy s n = record { proposed = s .proposed; forwarded = more (s .forwarded) n; declined = s .declined; deferred = s .deferred; unsettled = less (s .unsettled) n }
+abbrev pub countForwarded : Sheet → ℕ → Sheet
+countForwarded s n = record { proposed = s .proposed; forwarded = more (s .forwarded) n; declined = s .declined; deferred = s .deferred; unsettled = less (s .unsettled) n }
 
-abbrev pub declinedBy : Sheet → ℕ → Sheet
-declinedBy s n = record { proposed = s .proposed; forwarded = s .forwarded; declined = more (s .declined) n; deferred = s .deferred; unsettled = less (s .unsettled) n }
+abbrev pub countDeclined : Sheet → ℕ → Sheet
+countDeclined s n = record { proposed = s .proposed; forwarded = s .forwarded; declined = more (s .declined) n; deferred = s .deferred; unsettled = less (s .unsettled) n }
 
-abbrev pub deferredBy : Sheet → ℕ → Sheet
-deferredBy s n = record { proposed = s .proposed; forwarded = s .forwarded; declined = s .declined; deferred = more (s .deferred) n; unsettled = less (s .unsettled) n }
+abbrev pub countDeferred : Sheet → ℕ → Sheet
+countDeferred s n = record { proposed = s .proposed; forwarded = s .forwarded; declined = s .declined; deferred = more (s .deferred) n; unsettled = less (s .unsettled) n }

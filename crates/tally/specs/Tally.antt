@@ -2,21 +2,18 @@
 use mathlib.Core.List.{[]}
 use Prim.Native.Nat.{ℕ, _%_}
 use Rattle.grammar.specs.Bytes.{Bytes, fourByteValues}
-use Rattle.mail.specs.Tally.{waits, waitingBytes}
+use Rattle.mail.specs.Tally.{waitingCount, waitingBytes}
 use Rattle.entries.specs.Decoded.{recordsOf}
 use Rattle.marking.specs.States.{statesOf}
 use Rattle.sheet.specs.declared.Sheet.{Sheet}
 use Rattle.session_memory.specs.declared.Tally.{Tally}
 
--- How many numbers four bytes have: 64 sizes of 999,999 at most, as open demands, stay far below.
-abbrev pub sizesRange : ℕ
-sizesRange = fourByteValues
-
 unfoldable pub waitingIn : ℕ → Bytes → ℕ
-waitingIn partner table = waits (statesOf partner table)
+waitingIn partner table = waitingCount (statesOf partner table)
 
+-- In four bytes: 64 sizes of 999,999 at most, as open demands, stay far below.
 unfoldable pub sizesIn : ℕ → Bytes → ℕ
-sizesIn partner table = waitingBytes (recordsOf [] [] [] table) (statesOf partner table) % sizesRange
+sizesIn partner table = waitingBytes (recordsOf [] [] [] table) (statesOf partner table) % fourByteValues
 
 -- Both numbers, beside this sheet.
 abbrev pub counted : ℕ → Bytes → Sheet → Tally

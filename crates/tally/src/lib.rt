@@ -8,7 +8,7 @@ ghost use mathlib.Core.Path.{_≡_};
 ghost use Rattle.tally.specs.Tally.{counted};
 
 // The sum has four bytes in session memory.
-const SIZES_RANGE: usize = layout::FOUR_BYTE_VALUES;
+const FOUR_BYTE_VALUES: usize = layout::FOUR_BYTE_VALUES;
 
 // What waits for the partner, beside this sheet.
 pub fn counted(partner: u8, table: &[u8], sheet: Sheet) -> Tally
@@ -29,7 +29,7 @@ pub fn counted(partner: u8, table: &[u8], sheet: Sheet) -> Tally
     }
     Tally {
         waiting: waiting,
-        sizes: (sizes % SIZES_RANGE) as u32,
+        sizes: (sizes % FOUR_BYTE_VALUES) as u32,
         sheet: sheet,
     }
 }

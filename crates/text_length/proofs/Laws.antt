@@ -92,20 +92,20 @@ module _ (table titles names bodies : Bytes) (i : ℕ) {r : Bytes} (e : r ≡ en
 -- ---------------------------------------------------------------- digits
 
 -- a turn of the loop: the last digit is counted
-pub digits-more : (n rest before : ℕ) → 1 ≤ before → decimalBase ≤ rest → length (writeNum decimalDigits n) + before ≡ decimalDigits - 1 + length (writeNum (before + 1) rest)
+pub digit-count-more : (n rest before : ℕ) → 1 ≤ before → decimalBase ≤ rest → length (writeNum decimalDigits n) + before ≡ decimalDigits - 1 + length (writeNum (before + 1) rest)
     → length (writeNum decimalDigits n) + (before - 1) ≡ decimalDigits - 1 + length (writeNum (before - 1 + 1) (rest / decimalBase))
 unfolding writeNum
-digits-more n rest before g k e =
+digit-count-more n rest before g k e =
     let z : before - 1 + 1 ≡ before = omega arith in
     let m : length (writeNum (before + 1) rest) ≡ length (writeNum before (rest / decimalBase)) + 1 =
     rw (add-one before, le-ltb rest decimalBase k) (length-append (writeNum before (rest / decimalBase)) ((char "0" + rest % decimalBase) ∷ [])) in
     rw z (omega (arith, e, m))
 
 -- the digit that is left at the end
-pub digits-end : (n rest before : ℕ) → before ≤ decimalDigits - 1 → rest < decimalBase → length (writeNum decimalDigits n) + before ≡ decimalDigits - 1 + length (writeNum (before + 1) rest)
+pub digit-count-end : (n rest before : ℕ) → before ≤ decimalDigits - 1 → rest < decimalBase → length (writeNum decimalDigits n) + before ≡ decimalDigits - 1 + length (writeNum (before + 1) rest)
     → decimalDigits - before ≡ length (writeNum decimalDigits n)
 unfolding writeNum
-digits-end n rest before g k e =
+digit-count-end n rest before g k e =
     let m : length (writeNum (before + 1) rest) ≡ 1 = rw (add-one before, lt-ltb rest decimalBase k) in
     omega (arith, e, m)
 

@@ -9,7 +9,7 @@ ghost use mathlib.Core.Path.{_≡_};
 ghost use mathlib.Core.List.{[]};
 ghost use Prim.Native.Nat.{_+_, _-_, _≤_};
 ghost use lib.ListN.{length};
-ghost use Rattle.grammar.specs.Fields.{decimal, bodyLimit, decimalDigits};
+ghost use Rattle.grammar.specs.Fields.{decimal, bodyMax, decimalDigits};
 ghost use Rattle.grammar.specs.Turns.{withCr, proposalLine};
 ghost use Rattle.mail.specs.Mail.{proposalOf, transferOf};
 ghost use Rattle.layout.specs.Layout.{fieldIn, entryAt, recordOf};
@@ -18,25 +18,25 @@ ghost use Rattle.grammar.specs.Bytes.{byteValues};
 ghost use Rattle.text_length.specs.Lengths.{besideFramed, blockHeads};
 
 // Our SID, the prompt, and `FF`, `FQ` or `F>`, each with its CR.
-pub const SID: usize = 14;
+pub const SID_LENGTH: usize = 14;
 
-pub const PROMPT: usize = 2;
+pub const PROMPT_LENGTH: usize = 2;
 
-pub const FIXED: usize = 3;
+pub const FIXED_LENGTH: usize = 3;
 
 // Either line that says why we hang up, with its CR.
-pub const ERROR: usize = 19;
+pub const ERROR_LENGTH: usize = 19;
 
-// What an FS line has beside its signs: `FS`, a space and the CR.
-pub const FS: usize = 4;
+// What an FS line has beside its signs: `FS_LENGTH`, a space and the CR.
+pub const FS_LENGTH: usize = 4;
 
 // What a proposal has beside from, at, to, BID and size.
-const PROPOSAL: usize = 10;
+const PROPOSAL_LENGTH: usize = 10;
 
 // What a plain transfer has beside title and body; what a framed one has beside heading, data and the two bytes that begin a block.
-const PLAIN: usize = 3;
+const PLAIN_LENGTH: usize = 3;
 
-const FRAMED: usize = 7;
+const FRAMED_LENGTH: usize = 7;
 
 // The most data bytes of a block that is not whole.
 const LESS_THAN_BLOCK: usize = BLOCK_DATA - 1;
@@ -48,10 +48,10 @@ const BASE: u32 = byte::DECIMAL_BASE as u32;
 
 // A framed transfer with a heading and a body of so many bytes: blocks of 256 data bytes and a shorter last one.
 fn framed(heading: usize, body: usize) -> usize
-    requires { ⌜ (heading ≤ byteValues - 1) × (body ≤ bodyLimit) ⌝ }
+    requires { ⌜ (heading ≤ byteValues - 1) × (body ≤ bodyMax) ⌝ }
     ensures { λ r. ⌜ r ≡ besideFramed + heading + body + blockHeads body ⌝ }
 {
-    FRAMED + heading + body + BLOCK_HEAD * ((body + LESS_THAN_BLOCK) / BLOCK_DATA)
+    FRAMED_LENGTH + heading + body + BLOCK_HEAD * ((body + LESS_THAN_BLOCK) / BLOCK_DATA)
 }
 
 // The transfer of the record at this place of the table.
@@ -60,18 +60,18 @@ pub fn transfer<'a>(table: &[u8], i: u8, titles: &'a [u8], names: &'a [u8], bodi
 {
     let r = entry(places::RECORD, table, i as u16);
     if r.len() < places::RECORD as usize {
-        return PLAIN;
+        return PLAIN_LENGTH;
     }
     let heading = record_text::heading(r, titles, names).len();
     let body = record_text::body(r, bodies).len();
     let form = r[places::RECORD_FORM as usize];
-    if form == record_text::MESSAGE {
+    if form == record_text::FORM_MESSAGE {
         return framed(heading, body);
     }
-    if form == record_text::FILE {
+    if form == record_text::FORM_FILE {
         return framed(heading, body);
     }
-    PLAIN + heading + body
+    PLAIN_LENGTH + heading + body
 }
 
 // The decimal digits of a size.
@@ -104,5 +104,5 @@ pub fn proposal(table: &[u8], i: u8) -> usize
     let to = field_length(r, places::RECORD_TO, places::CALL_MAX);
     let bid = field_length(r, places::RECORD_BID, places::BID_MAX);
     let size = number4(r, places::RECORD_SIZE_FIELD as u16) as u32;
-    PROPOSAL + from + at + to + bid + digits(size)
+    PROPOSAL_LENGTH + from + at + to + bid + digits(size)
 }

@@ -15,7 +15,7 @@ use Rattle.grammar.proofs.Basics.{Lacks, suc-ltb}
 use Rattle.span.specs.Places.{upto}
 use Rattle.span.proofs.Laws.{upto-most}
 use Rattle.text_line.specs.TextLines.{linesFrom, textLines, withoutLast, lessEmptyEnd, bodyLines}
-use Rattle.text_line.specs.Places.{leadingLf, lineFrom, lineAt, linesBy}
+use Rattle.text_line.specs.Places.{leadingLf, lineFrom, textLineAt, linesBy}
 use Rattle.text_line.specs.declared.NextLine.{NextLine}
 
 -- ---------------------------------------------------------------- lists
@@ -98,8 +98,8 @@ next-drop body start n = rw (drop-drop (suc n) start body) (go (leb (length body
     go false e = ap (λ (k : ℕ). drop k body) (let z : start + n + 1 ≡ start + suc n = omega arith in z)
 
 -- WHAT A LINE'S PLACES MEAN: the lines from a place on are that line and the lines from its next place on
-pub line-means : (body : Bytes) (at : ℕ) → linesBy body (lineAt body at) ≡ bodyLines (drop at body)
-unfolding lineAt
+pub line-means : (body : Bytes) (at : ℕ) → linesBy body (textLineAt body at) ≡ bodyLines (drop at body)
+unfolding textLineAt
 line-means body at = rw (lines-step (drop at body), drop-lf (drop at body), drop-drop) (go (at + leadingLf (drop at body)) (leb (length body) (at + leadingLf (drop at body))) refl)
   where
     go : (start : ℕ) (t : Bool) → leb (length body) start ≡ t
@@ -111,15 +111,15 @@ line-means body at = rw (lines-step (drop at body), drop-lf (drop at body), drop
         rw (null-drop body start (leb-false (length body) start e), next-drop body start (upto CR (drop start body)), z)
 
 -- where a line lies: within the body, not before the place asked for, and the next place is later
-abbrev pub Lies : Bytes → ℕ → NextLine → Type 0
-Lies body at NextLine.End = Unit {0}
-Lies body at (NextLine.Line t) = (at ≤ t .start) × (t .start ≤ t .end) × (t .end ≤ t .next) × (at < t .next) × (t .next ≤ length body)
+abbrev pub TextLineLies : Bytes → ℕ → NextLine → Type 0
+TextLineLies body at NextLine.End = Unit {0}
+TextLineLies body at (NextLine.Line t) = (at ≤ t .start) × (t .start ≤ t .end) × (t .end ≤ t .next) × (at < t .next) × (t .next ≤ length body)
 
-pub line-lies : (body : Bytes) (at : ℕ) → Lies body at (lineAt body at)
-unfolding lineAt
+pub line-lies : (body : Bytes) (at : ℕ) → TextLineLies body at (textLineAt body at)
+unfolding textLineAt
 line-lies body at = go (at + leadingLf (drop at body)) (omega arith) (leb (length body) (at + leadingLf (drop at body))) refl
   where
-    go : (start : ℕ) → at ≤ start → (t : Bool) → leb (length body) start ≡ t → Lies body at (cond t NextLine.End (NextLine.Line (lineFrom body start)))
+    go : (start : ℕ) → at ≤ start → (t : Bool) → leb (length body) start ≡ t → TextLineLies body at (cond t NextLine.End (NextLine.Line (lineFrom body start)))
     go start h true e = tt
     go start h false e =
         let l = leb-false (length body) start e in
@@ -175,14 +175,14 @@ module _ (body : Bytes) (at : ℕ) (h : at < length body) where
   lf-not e = rw (drop-cons body at 0 h, ne-eqb _ _ e) (omega arith)
 
 module _ (body : Bytes) (at start : ℕ) (s : start ≡ at + leadingLf (drop at body)) where
-  pub at-end : length body ≤ start → NextLine.End ≡ lineAt body at
-  unfolding lineAt
+  pub at-end : length body ≤ start → NextLine.End ≡ textLineAt body at
+  unfolding textLineAt
   at-end h = rw (← s, le-leb _ _ h)
 
-  pub last-line : (end : ℕ) → start < length body → end ≡ start + upto CR (drop start body) → length body ≤ end → NextLine.Line (record { start = start; end = end; next = end }) ≡ lineAt body at
-  unfolding lineAt
+  pub last-line : (end : ℕ) → start < length body → end ≡ start + upto CR (drop start body) → length body ≤ end → NextLine.Line (record { start = start; end = end; next = end }) ≡ textLineAt body at
+  unfolding textLineAt
   last-line end h e k = rw (← s, lt-leb _ _ h, ← e, le-leb _ _ k)
 
-  pub ended-line : (end : ℕ) → start < length body → end ≡ start + upto CR (drop start body) → end < length body → NextLine.Line (record { start = start; end = end; next = end + 1 }) ≡ lineAt body at
-  unfolding lineAt
+  pub ended-line : (end : ℕ) → start < length body → end ≡ start + upto CR (drop start body) → end < length body → NextLine.Line (record { start = start; end = end; next = end + 1 }) ≡ textLineAt body at
+  unfolding textLineAt
   ended-line end h e k = rw (← s, lt-leb _ _ h, ← e, lt-leb _ _ k)

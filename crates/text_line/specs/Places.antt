@@ -5,7 +5,7 @@ use Prim.Native.Nat.{ℕ, _+_}
 use lib.Dec.{eqb, leb}
 use lib.ListN.{length, drop}
 use Rattle.grammar.specs.Bytes.{Bytes, CR, LF}
-use Rattle.span.specs.Places.{between, upto}
+use Rattle.span.specs.Places.{bytesBetween, upto}
 use Rattle.text_line.specs.TextLines.{bodyLines}
 use Rattle.text_line.specs.declared.TextLine.{TextLine}
 use Rattle.text_line.specs.declared.NextLine.{NextLine}
@@ -22,11 +22,11 @@ lineFrom body start =
     record { start = start; end = end; next = cond (leb (length body) end) end (end + 1) }
 
 -- What is read at a place that follows the title's CR or a body CR.
-unfoldable pub lineAt : Bytes → ℕ → NextLine
-lineAt body at = let start = at + leadingLf (drop at body) in cond (leb (length body) start) NextLine.End (NextLine.Line (lineFrom body start))
+unfoldable pub textLineAt : Bytes → ℕ → NextLine
+textLineAt body at = let start = at + leadingLf (drop at body) in cond (leb (length body) start) NextLine.End (NextLine.Line (lineFrom body start))
 
 abbrev pub lineBytes : Bytes → TextLine → Bytes
-lineBytes body t = between body (t .start) (t .end)
+lineBytes body t = bytesBetween body (t .start) (t .end)
 
 -- The lines of a body by the first of them.
 abbrev pub linesBy : Bytes → NextLine → List Bytes

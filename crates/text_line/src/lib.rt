@@ -3,7 +3,7 @@ use span::find_from;
 ghost use mathlib.Core.Path.{_≡_};
 ghost use Prim.Native.Nat.{_+_};
 ghost use lib.ListN.{drop};
-ghost use Rattle.text_line.specs.Places.{leadingLf, lineAt};
+ghost use Rattle.text_line.specs.Places.{leadingLf, textLineAt};
 
 // Where a line lies in its body, from start up to, not including, end, and the place from which the next one is read.
 pub struct TextLine {
@@ -33,7 +33,7 @@ fn past_lf(body: &[u8], at: usize) -> usize
 
 // The line at a place that follows the title's CR (0) or a body CR (next of the line before).
 pub fn next_line(body: &[u8], at: usize) -> NextLine
-    ensures { λ r. ⌜ r ≡ lineAt (now (body .entry)) at ⌝ }
+    ensures { λ r. ⌜ r ≡ textLineAt (now (body .entry)) at ⌝ }
 {
     let start = past_lf(body, at);
     if body.len() <= start {

@@ -16,18 +16,18 @@ use Rattle.grammar.specs.Scan.{Scan, inTitle, inBody, inMark, atStart, atLen, i
 use Rattle.grammar.proofs.Basics.{by-test, and2, snoc-length}
 use Rattle.grammar.proofs.TransferBack.{sum-wraps, right-wraps}
 use Rattle.transfer_step.specs.declared.Reader.{Reader}
-use Rattle.transfer_step.specs.declared.Stepped.{Stepped}
-use Rattle.transfer_step.specs.declared.Outcome.the-variants.{Whole, Malformed, WrongSum, NoRoom}
-use Rattle.transfer_step.specs.Step.{goesOn, reader, at, headingMore, onward, ended, titleStep, bodyStep, markStep, beginStep, lengthStep, headingStep, offsetStep, dataStep, sizeStep, sumStep, stepAt, stepOf}
-use Rattle.transfer_read.specs.Feed.{Run, run, after, headingPut, storePut, feedOf}
-use Rattle.transfer_read.specs.Meaning.{headingSoFar, numbersOf, placeOf, steppedOf, outcomeOf, Stands, Ended, FedAs}
+use Rattle.transfer_step.specs.declared.ReadStep.{ReadStep}
+use Rattle.transfer_step.specs.declared.ReadOutcome.the-variants.{Whole, Malformed, WrongSum, NoRoom}
+use Rattle.transfer_step.specs.Step.{goesOn, reader, readerAt, headingMore, readingGoesOn, readingEnds, titleStep, bodyStep, markStep, beginStep, lengthStep, headingStep, offsetStep, dataStep, sizeStep, sumStep, stepAt, stepOf}
+use Rattle.transfer_read.specs.Feed.{PortionRead, portionRead, afterBytes, headingPut, storePut, feedOf}
+use Rattle.transfer_read.specs.Meaning.{headingSoFar, numbersOf, byteGoesTo, steppedOf, outcomeOf, Stands, Ended, FedAs}
 use Rattle.transfer_step.specs.Names.{bodyPlace, markPlace, lengthPlace, headingPlace, offsetPlace, dataPlace, sizePlace, checksumPlace, nowhere, toHeading, toBody}
 use Rattle.places.specs.Places.{headingMax}
 
 -- ---------------------------------------------------------------- the numbers
 
 -- an outcome chosen by a test, on both sides
-two : (sc : Scan) (b : ℕ) (c : Bool) (x y : Stepped) (v w : Scanned) → (c ≡ true → x ≡ steppedOf sc b v) → (c ≡ false → y ≡ steppedOf sc b w)
+two : (sc : Scan) (b : ℕ) (c : Bool) (x y : ReadStep) (v w : Scanned) → (c ≡ true → x ≡ steppedOf sc b v) → (c ≡ false → y ≡ steppedOf sc b w)
     → cond c x y ≡ steppedOf sc b (cond c v w)
 two sc b true x y v w p q = p refl
 two sc b false x y v w p q = q refl
@@ -38,52 +38,52 @@ unfolding stepOf stepAt titleStep bodyStep markStep beginStep lengthStep heading
 step-scan room (inTitle t) b =
     let r = numbersOf (inTitle t) in
     two (inTitle t) b (eqb b CR) _ _ _ _
-    (λ e. two (inTitle t) b (eqb (length t) 0) (ended r Malformed) (onward (at bodyPlace r) 0) malformed (goes (inBody t [])) (λ _. refl) (λ _. rw e))
-    (λ e. two (inTitle t) b (headingByte b && ltb (length t) headingMax) (onward (headingMore r) toHeading) (ended r Malformed) (goes (inTitle (t ++ (b ∷ [])))) malformed (λ _. rw (e, snoc-length t b)) (λ _. refl))
+    (λ e. two (inTitle t) b (eqb (length t) 0) (readingEnds r Malformed) (readingGoesOn (readerAt bodyPlace r) 0) malformed (goes (inBody t [])) (λ _. refl) (λ _. rw e))
+    (λ e. two (inTitle t) b (headingByte b && ltb (length t) headingMax) (readingGoesOn (headingMore r) toHeading) (readingEnds r Malformed) (goes (inTitle (t ++ (b ∷ [])))) malformed (λ _. rw (e, snoc-length t b)) (λ _. refl))
 step-scan room (inBody t x) b =
     let r = numbersOf (inBody t x) in
-    two (inBody t x) b (eqb b CTRLZ) (onward (at markPlace r) 0) _ (goes (inMark t x)) _
+    two (inBody t x) b (eqb b CTRLZ) (readingGoesOn (readerAt markPlace r) 0) _ (goes (inMark t x)) _
     (λ e. rw e)
-    (λ e. two (inBody t x) b (ltb (length x) room) (onward (reader 1 0 (length t) 0 0 0 (length x + 1)) toBody) (ended r NoRoom) (goes (inBody t (x ++ (b ∷ [])))) noRoom (λ _. rw (e, snoc-length x b)) (λ _. refl))
+    (λ e. two (inBody t x) b (ltb (length x) room) (readingGoesOn (reader 1 0 (length t) 0 0 0 (length x + 1)) toBody) (readingEnds r NoRoom) (goes (inBody t (x ++ (b ∷ [])))) noRoom (λ _. rw (e, snoc-length x b)) (λ _. refl))
 step-scan room (inMark t x) b =
     let r = numbersOf (inMark t x) in
-    two (inMark t x) b (eqb b CR) (ended r Whole) _ (got t x) _ (λ _. refl)
-    (λ _. two (inMark t x) b (eqb b SP) (onward r nowhere) (ended r Malformed) (goes (inMark t x)) malformed (λ _. refl) (λ _. refl))
-step-scan room atStart b = two atStart b (eqb b SOH) (onward (at lengthPlace (numbersOf atStart)) 0) (ended (numbersOf atStart) Malformed) (goes atLen) malformed (λ _. refl) (λ _. refl)
+    two (inMark t x) b (eqb b CR) (readingEnds r Whole) _ (got t x) _ (λ _. refl)
+    (λ _. two (inMark t x) b (eqb b SP) (readingGoesOn r nowhere) (readingEnds r Malformed) (goes (inMark t x)) malformed (λ _. refl) (λ _. refl))
+step-scan room atStart b = two atStart b (eqb b SOH) (readingGoesOn (readerAt lengthPlace (numbersOf atStart)) 0) (readingEnds (numbersOf atStart) Malformed) (goes atLen) malformed (λ _. refl) (λ _. refl)
 step-scan room atLen b =
-    two atLen b (leb lenLeast b && leb b lenMost) (onward (reader headingPlace b 0 0 0 0 0) nowhere) (ended (numbersOf atLen) Malformed) (goes (inHead b [])) malformed (λ _. refl) (λ _. refl)
+    two atLen b (leb lenLeast b && leb b lenMost) (readingGoesOn (reader headingPlace b 0 0 0 0 0) nowhere) (readingEnds (numbersOf atLen) Malformed) (goes (inHead b [])) malformed (λ _. refl) (λ _. refl)
 step-scan room (inHead len h) b =
     let r = numbersOf (inHead len h) in
     two (inHead len h) b (eqb b NUL) _ _ _ _
-    (λ e. two (inHead len h) b (eqb (length h) 0 || ltb (length h + besideMost) len) (ended r Malformed) (onward (at offsetPlace r) 0) malformed (goes (inOff len h [])) (λ _. refl) (λ _. rw e))
-    (λ e. two (inHead len h) b (headingByte b && (ltb (length h) headingMax && ltb (length h + besideLeast) len)) (onward (headingMore r) toHeading) (ended r Malformed) (goes (inHead len (h ++ (b ∷ [])))) malformed (λ _. rw (e, snoc-length h b)) (λ _. refl))
+    (λ e. two (inHead len h) b (eqb (length h) 0 || ltb (length h + besideMost) len) (readingEnds r Malformed) (readingGoesOn (readerAt offsetPlace r) 0) malformed (goes (inOff len h [])) (λ _. refl) (λ _. rw e))
+    (λ e. two (inHead len h) b (headingByte b && (ltb (length h) headingMax && ltb (length h + besideLeast) len)) (readingGoesOn (headingMore r) toHeading) (readingEnds r Malformed) (goes (inHead len (h ++ (b ∷ [])))) malformed (λ _. rw (e, snoc-length h b)) (λ _. refl))
 step-scan room (inOff len h o) b =
     let r = numbersOf (inOff len h o) in
     two (inOff len h o) b (eqb b NUL) _ _ _ _
-    (λ _. two (inOff len h o) b (eqb len (length h + length o + headerNuls)) (onward (reader dataPlace 0 (length h) 0 0 0 0) nowhere) (ended r Malformed) (goes (inData h [] 0)) malformed (λ _. refl) (λ _. refl))
-    (λ _. two (inOff len h o) b (eqb b offsetDigit && ltb (length h + length o + headerNuls) len) (onward (reader offsetPlace len (length h) (length o + 1) 0 0 0) nowhere) (ended r Malformed) (goes (inOff len h (o ++ (b ∷ [])))) malformed (λ _. rw (snoc-length o b)) (λ _. refl))
+    (λ _. two (inOff len h o) b (eqb len (length h + length o + headerNuls)) (readingGoesOn (reader dataPlace 0 (length h) 0 0 0 0) nowhere) (readingEnds r Malformed) (goes (inData h [] 0)) malformed (λ _. refl) (λ _. refl))
+    (λ _. two (inOff len h o) b (eqb b offsetDigit && ltb (length h + length o + headerNuls) len) (readingGoesOn (reader offsetPlace len (length h) (length o + 1) 0 0 0) nowhere) (readingEnds r Malformed) (goes (inOff len h (o ++ (b ∷ [])))) malformed (λ _. rw (snoc-length o b)) (λ _. refl))
 step-scan room (inData h x zero) b =
     let r = numbersOf (inData h x zero) in
-    two (inData h x zero) b (eqb b STX) (onward (at sizePlace r) nowhere) _ (goes (atSize h x)) _ (λ _. refl)
-    (λ _. two (inData h x zero) b (eqb b EOT) (onward (at checksumPlace r) nowhere) (ended r Malformed) (goes (atSum h x)) malformed (λ _. refl) (λ _. refl))
+    two (inData h x zero) b (eqb b STX) (readingGoesOn (readerAt sizePlace r) nowhere) _ (goes (atSize h x)) _ (λ _. refl)
+    (λ _. two (inData h x zero) b (eqb b EOT) (readingGoesOn (readerAt checksumPlace r) nowhere) (readingEnds r Malformed) (goes (atSum h x)) malformed (λ _. refl) (λ _. refl))
 step-scan room (inData h x (suc k)) b =
     let r = numbersOf (inData h x (suc k)) in
     let e : suc k - 1 ≡ k = omega arith in
     rw (ne-eqb (suc k) 0 (λ z. omega arith))
-    (two (inData h x (suc k)) b (ltb (length x) room) (onward (reader dataPlace 0 (length h) 0 (suc k - 1) ((byteSum x % byteValues + b) % byteValues) (length x + 1)) toBody) (ended r NoRoom)
+    (two (inData h x (suc k)) b (ltb (length x) room) (readingGoesOn (reader dataPlace 0 (length h) 0 (suc k - 1) ((byteSum x % byteValues + b) % byteValues) (length x + 1)) toBody) (readingEnds r NoRoom)
     (goes (inData h (x ++ (b ∷ [])) k)) noRoom (λ _. rw (snoc-length x b, sum-wraps x b, e)) (λ _. refl))
 step-scan room (atSize h x) b = refl
 step-scan room (atSum h x) b =
     let r = numbersOf (atSum h x) in
-    rw (right-wraps x b) (two (atSum h x) b (eqb ((byteSum x % byteValues + b) % byteValues) 0) (ended r Whole) (ended r WrongSum) (got h x) wrongSum (λ _. refl) (λ _. refl))
+    rw (right-wraps x b) (two (atSum h x) b (eqb ((byteSum x % byteValues + b) % byteValues) 0) (readingEnds r Whole) (readingEnds r WrongSum) (got h x) wrongSum (λ _. refl) (λ _. refl))
 
 -- ---------------------------------------------------------------- the bytes so far
 
 -- what one byte adds to heading and body, and that both stay within their bounds; a whole transfer is what was read so far
 Grows : ℕ → Scan → ℕ → Scanned → Type 0
 Grows room sc b (goes sc′) =
-    (headingSoFar sc′ ≡ cond (eqb (placeOf sc b) toHeading) (headingSoFar sc ++ (b ∷ [])) (headingSoFar sc))
-    × (bodyOf sc′ ≡ cond (eqb (placeOf sc b) toBody) (bodyOf sc ++ (b ∷ [])) (bodyOf sc))
+    (headingSoFar sc′ ≡ cond (eqb (byteGoesTo sc b) toHeading) (headingSoFar sc ++ (b ∷ [])) (headingSoFar sc))
+    × (bodyOf sc′ ≡ cond (eqb (byteGoesTo sc b) toBody) (bodyOf sc ++ (b ∷ [])) (bodyOf sc))
     × (length (headingSoFar sc′) ≤ headingMax) × (length (bodyOf sc′) ≤ room)
 Grows room sc b (got h x) = (h ≡ headingSoFar sc) × (x ≡ bodyOf sc)
 Grows room sc b malformed = Unit {0}
@@ -172,10 +172,10 @@ length-put false l n b = refl
 
 -- one byte at which the scan goes on
 stands-on : (room : ℕ) (hd st : Bytes) (sc sc′ : Scan) (b : ℕ) → Stands room (numbersOf sc) hd st sc → Grows room sc b (goes sc′)
-    → Stands room (numbersOf sc′) (headingPut (placeOf sc b) (numbersOf sc) b hd) (storePut (placeOf sc b) (numbersOf sc) b st) sc′
+    → Stands room (numbersOf sc′) (headingPut (byteGoesTo sc b) (numbersOf sc) b hd) (storePut (byteGoesTo sc b) (numbersOf sc) b st) sc′
 unfolding Grows headingPut storePut
 stands-on room hd st sc sc′ b k g =
-    let p = placeOf sc b in
+    let p = byteGoesTo sc b in
     let r = numbersOf sc in
     let short = g .2 in
     let fits = g .3 in
@@ -213,12 +213,12 @@ full-stays room (b ∷ bs) = full-stays room bs
 module _ (room : ℕ) (sc : Scan) (b : ℕ) where
   -- the outcome comes at once
   at-once : (bs : Bytes) (o : Scanned) (hd st : Bytes) → scanByte room sc b ≡ o → Stands room (numbersOf sc) hd st sc
-      → Ended room sc (b ∷ bs) o (run (record { outcome = outcomeOf o; reader = numbersOf sc; count = 1 }) hd st)
+      → Ended room sc (b ∷ bs) o (portionRead (record { outcome = outcomeOf o; reader = numbersOf sc; count = 1 }) hd st)
   at-once bs o hd st e k =
       record { before = []; byte = b; rest = bs; last = sc; bytes = refl; onto = refl; judged = e; outcome = refl; count = refl; stands = k }
 
   -- the outcome comes later
-  later : (sc′ : Scan) (bs : Bytes) (o : Scanned) (u : Run) → scanByte room sc b ≡ goes sc′ → Ended room sc′ bs o u → Ended room sc (b ∷ bs) o (after 1 u)
+  later : (sc′ : Scan) (bs : Bytes) (o : Scanned) (u : PortionRead) → scanByte room sc b ≡ goes sc′ → Ended room sc′ bs o u → Ended room sc (b ∷ bs) o (afterBytes 1 u)
   later sc′ bs o u e k =
       let n = k .count in
       record {
@@ -234,7 +234,7 @@ module _ (room : ℕ) (sc : Scan) (b : ℕ) where
         stands = k .stands;
       }
 
-  fed-later : (sc′ : Scan) (bs : Bytes) (u : Run) (o : Scanned) → scanByte room sc b ≡ goes sc′ → FedAs room sc′ bs u o → FedAs room sc (b ∷ bs) (after 1 u) o
+  fed-later : (sc′ : Scan) (bs : Bytes) (u : PortionRead) (o : Scanned) → scanByte room sc b ≡ goes sc′ → FedAs room sc′ bs u o → FedAs room sc (b ∷ bs) (afterBytes 1 u) o
   fed-later sc′ bs u (goes sc″) e k = let n = k .1 in (k .0, omega arith, k .2)
   fed-later sc′ bs u (got h x) e k =
       let f = k .1 in
@@ -244,10 +244,10 @@ module _ (room : ℕ) (sc : Scan) (b : ℕ) where
   fed-later sc′ bs u noRoom e k = later sc′ bs noRoom u e k
 
 -- the portion b ∷ bs, where the step on b has given s
-Turned : ℕ → Reader → ℕ → Bytes → Bytes → Bytes → Stepped → Run
+Turned : ℕ → Reader → ℕ → Bytes → Bytes → Bytes → ReadStep → PortionRead
 Turned room r b bs hd st s =
-    cond (goesOn (s .outcome)) (after 1 (feedOf room (s .reader) bs (headingPut (s .put) r b hd) (storePut (s .put) r b st)))
-    (run (record { outcome = s .outcome; reader = s .reader; count = 1 }) (headingPut (s .put) r b hd) (storePut (s .put) r b st))
+    cond (goesOn (s .outcome)) (afterBytes 1 (feedOf room (s .reader) bs (headingPut (s .put) r b hd) (storePut (s .put) r b st)))
+    (portionRead (record { outcome = s .outcome; reader = s .reader; count = 1 }) (headingPut (s .put) r b hd) (storePut (s .put) r b st))
 
 turned : (room : ℕ) (sc : Scan) (b : ℕ) (bs hd st : Bytes) (v : Scanned) → scanByte room sc b ≡ v → Stands room (numbersOf sc) hd st sc → Grows room sc b v
     → ((sc′ : Scan) (hd′ st′ : Bytes) → Stands room (numbersOf sc′) hd′ st′ sc′ → FedAs room sc′ bs (feedOf room (numbersOf sc′) bs hd′ st′) (scanOn room (goes sc′) bs))
@@ -255,8 +255,8 @@ turned : (room : ℕ) (sc : Scan) (b : ℕ) (bs hd st : Bytes) (v : Scanned) →
 unfolding Turned headingPut storePut Grows
 turned room sc b bs hd st (goes sc′) e k g ih =
     let r = numbersOf sc in
-    let hd′ = headingPut (placeOf sc b) r b hd in
-    let st′ = storePut (placeOf sc b) r b st in
+    let hd′ = headingPut (byteGoesTo sc b) r b hd in
+    let st′ = storePut (byteGoesTo sc b) r b st in
     fed-later room sc b sc′ bs (feedOf room (numbersOf sc′) bs hd′ st′) (scanOn room (goes sc′) bs) e (ih sc′ hd′ st′ (stands-on room hd st sc sc′ b k g))
 turned room sc b bs hd st (got h x) e k g ih =
     rw (got-stays room h x bs) (
@@ -279,7 +279,7 @@ stands-fed room [] hd st sc k = (refl, refl, k)
 stands-fed room (b ∷ bs) hd st sc k =
     let short = k .short in
     let fits = k .fits in
-    subst (λ (s : Stepped). FedAs room sc (b ∷ bs) (Turned room (numbersOf sc) b bs hd st s) (scanOn room (scanByte room sc b) bs)) (sym (step-scan room sc b))
+    subst (λ (s : ReadStep). FedAs room sc (b ∷ bs) (Turned room (numbersOf sc) b bs hd st s) (scanOn room (scanByte room sc b) bs)) (sym (step-scan room sc b))
     (turned room sc b bs hd st (scanByte room sc b) refl k
     (grows room sc b (subst (λ (n : ℕ). n ≤ headingMax) (head-of sc) short) (subst (λ (n : ℕ). n ≤ room) (body-of sc) fits))
     (λ sc′ hd′ st′ h. stands-fed room bs hd′ st′ sc′ h))

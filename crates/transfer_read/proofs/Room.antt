@@ -5,14 +5,14 @@ use mathlib.Core.List.{[], _∷_}
 use Rattle.grammar.specs.Bytes.{Bytes}
 use Rattle.grammar.proofs.Basics.{by-cond}
 use Rattle.transfer_step.specs.declared.Reader.{Reader}
-use Rattle.transfer_step.specs.declared.Stepped.{Stepped}
+use Rattle.transfer_step.specs.declared.ReadStep.{ReadStep}
 use Rattle.transfer_step.specs.Step.{goesOn, stepOf}
 use Rattle.transfer_step.proofs.Ways.{by-ways}
-use Rattle.transfer_read.specs.Feed.{Run, headingPut, storePut, feedOf}
+use Rattle.transfer_read.specs.Feed.{PortionRead, headingPut, storePut, feedOf}
 
 pub step-within : (room : ℕ) (r : Reader) (b : ℕ) → r .body ≤ room → stepOf room r b .reader .body ≤ room
 step-within room r b h =
-    by-ways room r b (λ (t : Stepped). t .reader .body ≤ room)
+    by-ways room r b (λ (t : ReadStep). t .reader .body ≤ room)
     (record {
       ends = λ o. h;
       skips = h;
@@ -32,5 +32,5 @@ feed-within room r [] hd st h = h
 feed-within room r (b ∷ bs) hd st h =
     let t = stepOf room r b in
     let k = step-within room r b h in
-    by-cond (λ (u : Run). u .fed .reader .body ≤ room) (goesOn (t .outcome))
+    by-cond (λ (u : PortionRead). u .fed .reader .body ≤ room) (goesOn (t .outcome))
     (feed-within room (t .reader) bs (headingPut (t .put) r b hd) (storePut (t .put) r b st) k) k

@@ -2,22 +2,21 @@
 -- One byte is one step (data-one, body-one); then induction on the bytes; then the number that `straight` gives leaves only such bytes.
 use mathlib.Core.Path.{_≡_, refl, sym, ap, _∙_, subst}
 use mathlib.Core.Bool.{Bool, true, false, cond}
-use mathlib.Core.List.{[], _∷_, _++_, append-assoc}
+use mathlib.Core.List.{[], _∷_, _++_}
 use Prim.Native.Nat.{ℕ, suc, _+_, _-_, _%_, _≤_, _<_, min}
 use native.Mathlib.Omega.{arith}
 use native.Mathlib.Numerals.{add-one}
 use lib.Dec.{eqb, ltb}
 use lib.ListN.{length, getD, take, drop, set, length-take, length-drop, take-append-drop, drop-of-length-le}
-use lib.Seq.{sets, sets-eq, take-all, take-take, drop-drop, drop-cons, length-take-le}
+use lib.Seq.{sets, take-all, take-take, drop-drop, drop-cons, length-take-le}
 use borrow.Author.Tests.{eq-eqb, ne-eqb, lt-ltb, eqb-true, ltb-true}
 use Rattle.grammar.specs.Bytes.{Bytes, CTRLZ, byteValues}
 use Rattle.grammar.specs.Transfers.{byteSum}
 use Rattle.grammar.proofs.Basics.{Lacks}
-use Rattle.buffer.specs.Put.{wrote}
 use Rattle.transfer_step.specs.declared.Reader.{Reader}
-use Rattle.transfer_step.specs.declared.Outcome.the-variants.{More}
+use Rattle.transfer_step.specs.declared.ReadOutcome.the-variants.{More}
 use Rattle.transfer_step.specs.Step.{reader, bodyStep, dataStep, stepAt, stepOf}
-use Rattle.transfer_read.specs.Feed.{Run, run, after, headingPut, storePut, feedOf}
+use Rattle.transfer_read.specs.Feed.{PortionRead, portionRead, afterBytes, headingPut, storePut, feedOf}
 use Rattle.transfer_read.specs.Straight.{beforeMark, straightOf, along}
 use Rattle.transfer_read.proofs.Laws.{after-zero, after-after}
 use Rattle.transfer_step.specs.Names.{bodyPlace, dataPlace}
@@ -36,7 +35,7 @@ past-past r x w =
     rw (a, b, c)
 
 data-one : (room : ℕ) (r : Reader) (x : ℕ) (bs hd st : Bytes) → r .place ≡ dataPlace → 1 ≤ r .left → r .body < room
-    → feedOf room r (x ∷ bs) hd st ≡ after 1 (feedOf room (past r (x ∷ [])) bs hd (set st (r .body) x))
+    → feedOf room r (x ∷ bs) hd st ≡ afterBytes 1 (feedOf room (past r (x ∷ [])) bs hd (set st (r .body) x))
 unfolding feedOf stepOf stepAt dataStep headingPut storePut
 data-one room r x bs hd st e l h =
     let a : (r .sum + (x + 0)) % byteValues ≡ (r .sum + x) % byteValues = omega arith in
@@ -55,12 +54,12 @@ summed-some : (r : Reader) (w : Bytes) → 1 ≤ length w → Summed r w
 summed-some r [] h = let z : ⊥ = omega arith in absurd z
 summed-some r (x ∷ w) h = tt
 
-one-more : (n : ℕ) (u : Run) → after 1 (after n u) ≡ after (suc n) u
-one-more n u = let e : 1 + n ≡ suc n = omega arith in after-after 1 n u ∙ ap (λ (k : ℕ). after k u) e
+one-more : (n : ℕ) (u : PortionRead) → afterBytes 1 (afterBytes n u) ≡ afterBytes (suc n) u
+one-more n u = let e : 1 + n ≡ suc n = omega arith in after-after 1 n u ∙ ap (λ (k : ℕ). afterBytes k u) e
 
 -- the bytes w of a block, one by one
 data-run : (room : ℕ) (r : Reader) (w bs hd st : Bytes) → r .place ≡ dataPlace → Summed r w → length w ≤ r .left → r .body + length w ≤ room
-    → feedOf room r (w ++ bs) hd st ≡ after (length w) (feedOf room (past r w) bs hd (sets st (r .body) w))
+    → feedOf room r (w ++ bs) hd st ≡ afterBytes (length w) (feedOf room (past r w) bs hd (sets st (r .body) w))
 data-run room r [] bs hd st e s l h =
     let a : r .left - 0 ≡ r .left = omega arith in
     let b : (r .sum + 0) % byteValues ≡ r .sum = omega arith in
@@ -69,7 +68,7 @@ data-run room r [] bs hd st e s l h =
 data-run room r (x ∷ w) bs hd st e s l h =
     let k : suc (r .body) ≡ r .body + 1 = omega arith in
     data-one room r x (w ++ bs) hd st e (omega arith) (omega arith)
-    ∙ (ap (after 1) (data-run room (past r (x ∷ [])) w bs hd (set st (r .body) x) refl (summed-past r x w) (omega arith) (omega arith))
+    ∙ (ap (afterBytes 1) (data-run room (past r (x ∷ [])) w bs hd (set st (r .body) x) refl (summed-past r x w) (omega arith) (omega arith))
     ∙ rw (past-past r x w, k) (one-more (length w) (feedOf room (past r (x ∷ w)) bs hd (sets (set st (r .body) x) (r .body + 1) w))))
 
 -- ---------------------------------------------------------------- a plain body
@@ -82,20 +81,20 @@ beyond-beyond : (r : Reader) (x : ℕ) (w : Bytes) → beyond (beyond r (x ∷ [
 beyond-beyond r x w = let c : r .body + 1 + length w ≡ r .body + suc (length w) = omega arith in rw c
 
 body-one : (room : ℕ) (r : Reader) (x : ℕ) (bs hd st : Bytes) → r .place ≡ 1 → eqb x CTRLZ ≡ false → r .body < room
-    → feedOf room r (x ∷ bs) hd st ≡ after 1 (feedOf room (beyond r (x ∷ [])) bs hd (set st (r .body) x))
+    → feedOf room r (x ∷ bs) hd st ≡ afterBytes 1 (feedOf room (beyond r (x ∷ [])) bs hd (set st (r .body) x))
 unfolding feedOf stepOf stepAt bodyStep headingPut storePut
 body-one room r x bs hd st e n h = rw (e, n, lt-ltb (r .body) room h)
 
 -- the bytes w of a plain body, one by one
 body-run : (room : ℕ) (r : Reader) (w bs hd st : Bytes) → r .place ≡ 1 → Lacks CTRLZ w → r .body + length w ≤ room
-    → feedOf room r (w ++ bs) hd st ≡ after (length w) (feedOf room (beyond r w) bs hd (sets st (r .body) w))
+    → feedOf room r (w ++ bs) hd st ≡ afterBytes (length w) (feedOf room (beyond r w) bs hd (sets st (r .body) w))
 body-run room r [] bs hd st e n h =
     let c : r .body + 0 ≡ r .body = omega arith in
     rw (c, ← e) (sym (after-zero (feedOf room r bs hd st)))
 body-run room r (x ∷ w) bs hd st e n h =
     let k : suc (r .body) ≡ r .body + 1 = omega arith in
     body-one room r x (w ++ bs) hd st e (n .0) (omega arith)
-    ∙ (ap (after 1) (body-run room (beyond r (x ∷ [])) w bs hd (set st (r .body) x) refl (n .1) (omega arith))
+    ∙ (ap (afterBytes 1) (body-run room (beyond r (x ∷ [])) w bs hd (set st (r .body) x) refl (n .1) (omega arith))
     ∙ rw (beyond-beyond r x w, k) (one-more (length w) (feedOf room (beyond r (x ∷ w)) bs hd (sets (set st (r .body) x) (r .body + 1) w))))
 
 -- ---------------------------------------------------------------- the bytes at hand
@@ -123,7 +122,7 @@ pub record Straight (room : ℕ) (r : Reader) (bs : Bytes) (n : ℕ) : Type 0 wh
   pub within : n ≤ length bs
   pub fits : r .body + n ≤ room
   pub block : r .place ≡ dataPlace → n ≤ r .left
-  pub feeds : (hd st : Bytes) → feedOf room r bs hd st ≡ after n (feedOf room (along r (take n bs)) (drop n bs) hd (sets st (r .body) (take n bs)))
+  pub feeds : (hd st : Bytes) → feedOf room r bs hd st ≡ afterBytes n (feedOf room (along r (take n bs)) (drop n bs) hd (sets st (r .body) (take n bs)))
 
 along-block : (r : Reader) (w : Bytes) → r .place ≡ dataPlace → past r w ≡ along r w
 unfolding along
@@ -139,13 +138,13 @@ module _ (room : ℕ) (r : Reader) (bs : Bytes) (n : ℕ) (w : n ≤ length bs) 
 
   -- the bytes as they are taken, by the reading after them
   at-hand : (q : Reader) (hd st : Bytes) → q ≡ along r (take n bs)
-      → feedOf room r (take n bs ++ drop n bs) hd st ≡ after (length (take n bs)) (feedOf room q (drop n bs) hd (sets st (r .body) (take n bs)))
-      → feedOf room r bs hd st ≡ after n (feedOf room (along r (take n bs)) (drop n bs) hd (sets st (r .body) (take n bs)))
+      → feedOf room r (take n bs ++ drop n bs) hd st ≡ afterBytes (length (take n bs)) (feedOf room q (drop n bs) hd (sets st (r .body) (take n bs)))
+      → feedOf room r bs hd st ≡ afterBytes n (feedOf room (along r (take n bs)) (drop n bs) hd (sets st (r .body) (take n bs)))
   at-hand q hd st e g =
       ap (λ (b : Bytes). feedOf room r b hd st) (sym (take-append-drop n bs))
       ∙ (g
-      ∙ (ap (λ (k : ℕ). after k (feedOf room q (drop n bs) hd (sets st (r .body) (take n bs)))) taken
-      ∙ ap (λ (t : Reader). after n (feedOf room t (drop n bs) hd (sets st (r .body) (take n bs)))) e))
+      ∙ (ap (λ (k : ℕ). afterBytes k (feedOf room q (drop n bs) hd (sets st (r .body) (take n bs)))) taken
+      ∙ ap (λ (t : Reader). afterBytes n (feedOf room t (drop n bs) hd (sets st (r .body) (take n bs)))) e))
 
   a-block : 1 ≤ n → r .place ≡ dataPlace → n ≤ r .left → Straight room r bs n
   a-block h e l =
@@ -204,15 +203,11 @@ pub mark-stop : (s : Bytes) (i : ℕ) → i < length s → getD s i 0 ≡ CTRLZ 
 unfolding beforeMark
 mark-stop s i h e = rw (drop-cons s i 0 h, eq-eqb _ _ e) (omega arith)
 
-pub mark-end : (s : Bytes) (i : ℕ) → length s ≤ i → i ≡ i + beforeMark (drop i s)
+pub before-mark-end : (s : Bytes) (i : ℕ) → length s ≤ i → i ≡ i + beforeMark (drop i s)
 unfolding beforeMark
-mark-end s i h = rw (drop-of-length-le s h) (omega arith)
+before-mark-end s i h = rw (drop-of-length-le s h) (omega arith)
 
 -- ---------------------------------------------------------------- for `carry`
-
--- what the buffer's writer leaves
-pub wrote-sets : (d : Bytes) (at : ℕ) (p : Bytes) → at + length p ≤ length d → wrote d at p ≡ sets d at p
-wrote-sets d at p h = sym (sets-eq p d at h ∙ append-assoc (take at d) p (drop (at + length p) d))
 
 -- the wrapping sums
 pub block-along : (r : Reader) (w : Bytes) (k s : ℕ) → r .place ≡ dataPlace → k ≡ byteSum w % byteValues → s ≡ (r .sum + k) % byteValues
@@ -258,9 +253,9 @@ module _ (room : ℕ) (t : Reader) (input : Bytes) (i n : ℕ) (h : i < length i
   run-block q = let f = this-run .block q in let l = part-length in omega arith
 
   pub feed-run : (hd st st′ : Bytes) (t′ : Reader) → t′ ≡ along t (take (i + n - i) (drop i input)) → st′ ≡ sets st (t .body) (take (i + n - i) (drop i input))
-      → after i (feedOf room t (drop i input) hd st) ≡ after (i + n) (feedOf room t′ (drop (i + n) input) hd st′)
+      → afterBytes i (feedOf room t (drop i input) hd st) ≡ afterBytes (i + n) (feedOf room t′ (drop (i + n) input) hd st′)
   feed-run hd st st′ t′ f g =
-      ap (after i) (this-run .feeds hd st)
+      ap (afterBytes i) (this-run .feeds hd st)
       ∙ (after-after i n (feedOf room (along t (take n (drop i input))) (drop n (drop i input)) hd (sets st (t .body) (take n (drop i input))))
       ∙ rw (f, g, part-is, drop-drop n i input))
 
@@ -277,7 +272,7 @@ module _ (room : ℕ) (r : Reader) (bs : Bytes) (n : ℕ) (e : n ≡ straightOf 
   all-block k = let f = whole-run .block k in omega arith
 
   pub all-run : (hd st st′ : Bytes) (t : Reader) → t ≡ along r bs → st′ ≡ sets st (r .body) bs
-      → feedOf room r bs hd st ≡ run (record { outcome = More; reader = t; count = length bs }) hd st′
+      → feedOf room r bs hd st ≡ portionRead (record { outcome = More; reader = t; count = length bs }) hd st′
   unfolding feedOf
   all-run hd st st′ t f g =
       let k : n + 0 ≡ length bs = omega (arith, whole-run .within) in

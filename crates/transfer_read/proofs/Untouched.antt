@@ -10,20 +10,20 @@ use lib.ListN.{take, drop, set, length-set}
 use lib.Seq.{take-take, drop-drop, take-set-le, drop-set-lt}
 use Rattle.grammar.specs.Bytes.{Bytes}
 use Rattle.transfer_step.specs.declared.Reader.{Reader}
-use Rattle.transfer_step.specs.declared.Stepped.{Stepped}
+use Rattle.transfer_step.specs.declared.ReadStep.{ReadStep}
 use Rattle.transfer_step.specs.Names.{toHeading, toBody}
 use Rattle.transfer_step.specs.Step.{goesOn, stepOf}
 use Rattle.grammar.proofs.Basics.{by-cond}
 use Rattle.transfer_step.proofs.Ways.{by-ways}
 use Rattle.transfer_read.specs.Feed.{headingPut, storePut, feedOf}
-use Rattle.transfer_read.specs.Meaning.{Kept, Untouched}
+use Rattle.transfer_read.specs.Meaning.{SameOutside, Untouched}
 
 -- ---------------------------------------------------------------- one buffer
 
-pub kept-same : (i j : ℕ) (l : Bytes) → i ≤ j → Kept i j l l
+pub kept-same : (i j : ℕ) (l : Bytes) → i ≤ j → SameOutside i j l l
 kept-same i j l h = record { on = h; before = refl; past = refl; size = refl }
 
-stored : (i b : ℕ) (l : Bytes) → Kept i (i + 1) l (set l i b)
+stored : (i b : ℕ) (l : Bytes) → SameOutside i (i + 1) l (set l i b)
 stored i b l =
     record { on = omega arith; before = take-set-le i l i b (omega arith); past = drop-set-lt (i + 1) l i b (omega arith); size = length-set l i b }
 
@@ -32,7 +32,7 @@ drop-more j k a b h e =
     let n : j + (k - j) ≡ k = omega arith in
     subst (λ (m : ℕ). drop m b ≡ drop m a) n (sym (drop-drop (k - j) j b) ∙ (ap (drop (k - j)) e ∙ drop-drop (k - j) j a))
 
-pub kept-then : (i j k : ℕ) (a b c : Bytes) → Kept i j a b → Kept j k b c → Kept i k a c
+pub kept-then : (i j k : ℕ) (a b c : Bytes) → SameOutside i j a b → SameOutside j k b c → SameOutside i k a c
 kept-then i j k a b c p q =
     let h = p .on in
     let l = q .on in
@@ -46,7 +46,7 @@ kept-then i j k a b c p q =
 -- ---------------------------------------------------------------- one byte
 
 -- where the heading and the body end after a byte
-record Moves (r : Reader) (s : Stepped) : Type 0 where
+record Moves (r : Reader) (s : ReadStep) : Type 0 where
   pub head : cond (eqb (s .put) toHeading) (r .head + 1) (r .head) ≡ s .reader .head
   pub body : cond (eqb (s .put) toBody) (r .body + 1) (r .body) ≡ s .reader .body
 
@@ -66,23 +66,23 @@ moves room r b =
       block = λ h. record { head = refl; body = refl };
     })
 
-put-kept : (c : Bool) (i b : ℕ) (l : Bytes) → Kept i (cond c (i + 1) i) l (cond c (set l i b) l)
+put-kept : (c : Bool) (i b : ℕ) (l : Bytes) → SameOutside i (cond c (i + 1) i) l (cond c (set l i b) l)
 put-kept true i b l = stored i b l
 put-kept false i b l = kept-same i i l (omega arith)
 
 heading-kept : (room : ℕ) (r : Reader) (b : ℕ) (hd : Bytes)
-    → Kept (r .head) (stepOf room r b .reader .head) hd (headingPut (stepOf room r b .put) r b hd)
+    → SameOutside (r .head) (stepOf room r b .reader .head) hd (headingPut (stepOf room r b .put) r b hd)
 unfolding headingPut
 heading-kept room r b hd =
     let s = stepOf room r b in
-    subst (λ (j : ℕ). Kept (r .head) j hd (cond (eqb (s .put) toHeading) (set hd (r .head) b) hd)) (moves room r b .head) (put-kept (eqb (s .put) toHeading) (r .head) b hd)
+    subst (λ (j : ℕ). SameOutside (r .head) j hd (cond (eqb (s .put) toHeading) (set hd (r .head) b) hd)) (moves room r b .head) (put-kept (eqb (s .put) toHeading) (r .head) b hd)
 
 store-kept : (room : ℕ) (r : Reader) (b : ℕ) (st : Bytes)
-    → Kept (r .body) (stepOf room r b .reader .body) st (storePut (stepOf room r b .put) r b st)
+    → SameOutside (r .body) (stepOf room r b .reader .body) st (storePut (stepOf room r b .put) r b st)
 unfolding storePut
 store-kept room r b st =
     let s = stepOf room r b in
-    subst (λ (j : ℕ). Kept (r .body) j st (cond (eqb (s .put) toBody) (set st (r .body) b) st)) (moves room r b .body) (put-kept (eqb (s .put) toBody) (r .body) b st)
+    subst (λ (j : ℕ). SameOutside (r .body) j st (cond (eqb (s .put) toBody) (set st (r .body) b) st)) (moves room r b .body) (put-kept (eqb (s .put) toBody) (r .body) b st)
 
 -- ---------------------------------------------------------------- a portion
 

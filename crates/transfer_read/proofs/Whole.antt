@@ -8,17 +8,17 @@ use Prim.Native.Nat.{ℕ, _≤_}
 use native.Mathlib.Omega.{arith}
 use lib.ListN.{length, take, length-append}
 use lib.Seq.{take-append-add}
-use Rattle.grammar.specs.Bytes.{Bytes}
+use Rattle.grammar.specs.Bytes.{Bytes, joined}
 use Rattle.grammar.specs.Fields.{Form, plain, message, file, formNumber}
 use Rattle.grammar.specs.Transfers.{TransferKind, kindOf, Parsed, parse}
 use Rattle.grammar.specs.Scan.{Scan, Scanned, goes, got, malformed, wrongSum, noRoom, scan, scanFrom, scannedNumber}
 use Rattle.grammar.proofs.Basics.{snoc-cons}
-use Rattle.grammar.proofs.Refusal.{Verdict, exact, whole-got}
-use Rattle.transfer_step.specs.declared.Outcome.{Outcome}
-use Rattle.transfer_step.specs.declared.Outcome.the-variants.{More, Whole, Malformed, WrongSum, NoRoom}
+use Rattle.grammar.proofs.Refusal.{Verdict, exact-verdict, whole-got}
+use Rattle.transfer_step.specs.declared.ReadOutcome.{ReadOutcome}
+use Rattle.transfer_step.specs.declared.ReadOutcome.the-variants.{More, Whole, Malformed, WrongSum, NoRoom}
 use Rattle.transfer_step.specs.Step.{outcomeNumber, startOf}
-use Rattle.transfer_read.specs.Feed.{Run, roomOf, feedOf}
-use Rattle.transfer_read.specs.Meaning.{Stands, Ended, Received, contents, FedAs, feedEach, joined}
+use Rattle.transfer_read.specs.Feed.{PortionRead, roomOf, feedOf}
+use Rattle.transfer_read.specs.Meaning.{Stands, Ended, ReceivedWhole, contents, FedAs, feedEach}
 use Rattle.transfer_read.proofs.Portions.{feed-each}
 use Rattle.transfer_read.proofs.Follows.{feed-stands}
 use Rattle.places.specs.Places.{headingMax}
@@ -35,7 +35,7 @@ pub feed-scan : (f : Form) (bs hd st : Bytes) → length hd ≡ headingMax
     → FedAs (roomOf st) (scanFrom (kindOf f)) bs (feedOf (roomOf st) (startOf (formNumber f)) bs hd st) (scan (roomOf st) (kindOf f) bs)
 feed-scan f bs hd st e = feed-stands (roomOf st) (startOf (formNumber f)) bs hd st (scanFrom (kindOf f)) (start-stands f hd st e)
 
-fed-number : (room : ℕ) (sc : Scan) (bs : Bytes) (u : Run) (o : Scanned) → FedAs room sc bs u o → outcomeNumber (u .fed .outcome) ≡ scannedNumber o
+fed-number : (room : ℕ) (sc : Scan) (bs : Bytes) (u : PortionRead) (o : Scanned) → FedAs room sc bs u o → outcomeNumber (u .fed .outcome) ≡ scannedNumber o
 fed-number room sc bs u (goes sc′) k = ap outcomeNumber (k .0)
 fed-number room sc bs u (got h x) k = ap outcomeNumber (k .0 .outcome)
 fed-number room sc bs u malformed k = ap outcomeNumber (k .outcome)
@@ -50,12 +50,12 @@ feed-number f bs hd st e =
     fed-number room (scanFrom (kindOf f)) bs (feedOf room (startOf (formNumber f)) bs hd st) (scan room (kindOf f) bs) (feed-scan f bs hd st e)
 
 -- What an outcome says of the bytes up to it and with it, in terms of the whole reader alone: the grammar's verdict.
-pub ended-exact : (room : ℕ) (kind : TransferKind) (bs : Bytes) (o : Scanned) (u : Run) (k : Ended room (scanFrom kind) bs o u) → Verdict room kind o (k .before ++ (k .byte ∷ []))
+pub ended-exact : (room : ℕ) (kind : TransferKind) (bs : Bytes) (o : Scanned) (u : PortionRead) (k : Ended room (scanFrom kind) bs o u) → Verdict room kind o (k .before ++ (k .byte ∷ []))
 ended-exact room kind bs o u k =
-    subst (λ (s : Scanned). Verdict room kind s (k .before ++ (k .byte ∷ []))) (k .judged) (exact room kind (k .before) (k .last) (k .onto) (k .byte))
+    subst (λ (s : Scanned). Verdict room kind s (k .before ++ (k .byte ∷ []))) (k .judged) (exact-verdict room kind (k .before) (k .last) (k .onto) (k .byte))
 
 -- the outcome's byte is the last one of a right transfer
-last-byte : (room : ℕ) (kind : TransferKind) (bs h x t y : Bytes) (u : Run) → parse kind bs ≡ some (record { heading = h; body = x; right = true })
+last-byte : (room : ℕ) (kind : TransferKind) (bs h x t y : Bytes) (u : PortionRead) → parse kind bs ≡ some (record { heading = h; body = x; right = true })
     → (k : Ended room (scanFrom kind) bs (got t y) u) → u .fed .count ≡ length bs
 last-byte room kind bs h x t y u e k = go (k .rest) refl
   where
@@ -76,30 +76,30 @@ last-byte room kind bs h x t y u e k = go (k .rest) refl
 -- body of the whole reader in the buffers.
 pub feed-whole : (f : Form) (bs h x hd st : Bytes) → parse (kindOf f) bs ≡ some (record { heading = h; body = x; right = true }) → length hd ≡ headingMax → length x ≤ roomOf st
     → (xs : Bytes) (ps : List Bytes) → xs ++ joined ps ≡ bs
-    → Received (length bs) h x (feedEach (roomOf st) (feedOf (roomOf st) (startOf (formNumber f)) xs hd st) ps)
+    → ReceivedWhole (length bs) h x (feedEach (roomOf st) (feedOf (roomOf st) (startOf (formNumber f)) xs hd st) ps)
 feed-whole f bs h x hd st e l m xs ps q =
     let room = roomOf st in
     let r = startOf (formNumber f) in
     let u = feedOf room r bs hd st in
     let k = subst (FedAs room (scanFrom (kindOf f)) bs u) (whole-got room (kindOf f) bs h x e m) (feed-scan f bs hd st l) in
-    subst (Received (length bs) h x) (sym (feed-each room r ps xs hd st ∙ ap (λ (b : Bytes). feedOf room r b hd st) q))
+    subst (ReceivedWhole (length bs) h x) (sym (feed-each room r ps xs hd st ∙ ap (λ (b : Bytes). feedOf room r b hd st) q))
     (record { outcome = k .0 .outcome; count = last-byte room (kindOf f) bs h x h x u e (k .0); holds = k .1 })
 
 -- the bytes up to the outcome's, and with it
-counted : (room : ℕ) (sc : Scan) (bs : Bytes) (o : Scanned) (u : Run) (k : Ended room sc bs o u) → take (u .fed .count) bs ≡ k .before ++ (k .byte ∷ [])
+counted : (room : ℕ) (sc : Scan) (bs : Bytes) (o : Scanned) (u : PortionRead) (k : Ended room sc bs o u) → take (u .fed .count) bs ≡ k .before ++ (k .byte ∷ [])
 counted room sc bs o u k = rw (k .count, k .bytes) (take-append-add (k .before) (k .byte ∷ k .rest) 1)
 
 apart : {a : Type 0} → _≡_ {A = ℕ} 0 1 → a
 apart z = let y : ⊥ = omega arith in absurd y
 
 -- no other outcome is Whole
-never : {o : Outcome} {a : Type 0} → o ≡ Whole → (o ≡ More) ⊎ ((o ≡ Malformed) ⊎ ((o ≡ WrongSum) ⊎ (o ≡ NoRoom))) → a
+never : {o : ReadOutcome} {a : Type 0} → o ≡ Whole → (o ≡ More) ⊎ ((o ≡ Malformed) ⊎ ((o ≡ WrongSum) ⊎ (o ≡ NoRoom))) → a
 never e (inl p) = apart (cc)
 never e (inr (inl p)) = apart (cc)
 never e (inr (inr (inl p))) = apart (cc)
 never e (inr (inr (inr p))) = apart (cc)
 
-fed-right : (room : ℕ) (kind : TransferKind) (bs : Bytes) (u : Run) (o : Scanned) → FedAs room (scanFrom kind) bs u o → u .fed .outcome ≡ Whole
+fed-right : (room : ℕ) (kind : TransferKind) (bs : Bytes) (u : PortionRead) (o : Scanned) → FedAs room (scanFrom kind) bs u o → u .fed .outcome ≡ Whole
     → parse kind (take (u .fed .count) bs) ≡ some (contents u)
 fed-right room kind bs u (goes sc) k e = never e (inl (k .0))
 fed-right room kind bs u (got h x) k e =

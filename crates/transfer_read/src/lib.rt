@@ -1,8 +1,8 @@
 // A transfer read byte by byte, in any portions, into lent memory: its heading into an array of 80 bytes, its body into a store.
 use part::at_most;
-use transfer_step::Outcome;
+use transfer_step::ReadOutcome;
+use transfer_step::ReadStep;
 use transfer_step::Reader;
-use transfer_step::Stepped;
 use transfer_step::step;
 ghost use mathlib.Core.Path.{_≡_};
 ghost use mathlib.Core.List.{[], _∷_};
@@ -11,20 +11,20 @@ ghost use lib.ListN.{length};
 ghost use lib.Seq.{sets};
 ghost use Rattle.transfer_step.specs.Step.{stepOf, goesOn};
 ghost use Rattle.transfer_read.specs.Straight.{beforeMark, straightOf, along};
-ghost use Rattle.transfer_read.specs.Feed.{headingPut, storePut, roomOf, feedOf, run, RunsOn};
+ghost use Rattle.transfer_read.specs.Feed.{headingPut, storePut, roomOf, feedOf, portionRead, RunsOn};
 ghost use Rattle.transfer_step.specs.Names.{dataPlace};
-ghost use Rattle.grammar.specs.Fields.{bodyLimit};
+ghost use Rattle.grammar.specs.Fields.{bodyMax};
 
 // The places where bytes of a body come.
-const BODY: u8 = transfer_step::BODY;
+const BODY_PLACE: u8 = transfer_step::BODY_PLACE;
 
-const DATA: u8 = transfer_step::DATA;
+const DATA_PLACE: u8 = transfer_step::DATA_PLACE;
 
 // The byte that ends a plain body.
 const CTRL_Z: u8 = transfer_step::CTRL_Z;
 
 // The most bytes of a body.
-const BODY_LIMIT: usize = places::BODY_MAX as usize;
+const BODY_MAX: usize = places::BODY_MAX as usize;
 
 // Where a byte goes.
 const TO_HEADING: u8 = transfer_step::TO_HEADING;
@@ -32,8 +32,8 @@ const TO_HEADING: u8 = transfer_step::TO_HEADING;
 const TO_BODY: u8 = transfer_step::TO_BODY;
 
 // A portion's outcome, the reading after it, and how many bytes were read, a refused one and the last one of a transfer included.
-pub struct Fed {
-    pub outcome: Outcome,
+pub struct FedPortion {
+    pub outcome: ReadOutcome,
     pub reader: Reader,
     pub count: usize,
 }
@@ -45,20 +45,20 @@ pub struct RunOn {
 }
 
 // Whether the reading goes on.
-fn goes_on(o: Outcome) -> bool
+fn goes_on(o: ReadOutcome) -> bool
     ensures { λ r. ⌜ r ≡ goesOn o ⌝ }
 {
     match o {
-        Outcome::More => true,
-        Outcome::Whole => false,
-        Outcome::Malformed => false,
-        Outcome::WrongSum => false,
-        Outcome::NoRoom => false,
+        ReadOutcome::More => true,
+        ReadOutcome::Whole => false,
+        ReadOutcome::Malformed => false,
+        ReadOutcome::WrongSum => false,
+        ReadOutcome::NoRoom => false,
     }
 }
 
 // Stores the byte where it goes; nothing where that is past the end.
-fn keep(s: Stepped, r: Reader, b: u8, heading: &mut [u8], store: &mut [u8])
+fn keep(s: ReadStep, r: Reader, b: u8, heading: &mut [u8], store: &mut [u8])
     ensures { λ _. ⌜ (now (heading .exit) ≡ headingPut (s .put) r b (now (heading .entry))) × (now (store .exit) ≡ storePut (s .put) r b (now (store .entry))) ⌝ }
 {
     if s.put == TO_HEADING {
@@ -78,12 +78,12 @@ fn keep(s: Stepped, r: Reader, b: u8, heading: &mut [u8], store: &mut [u8])
 
 // How many bytes a store of this size takes of a body.
 fn room_of(size: usize) -> u32
-    ensures { λ r. ⌜ r ≡ min size bodyLimit ⌝ }
+    ensures { λ r. ⌜ r ≡ min size bodyMax ⌝ }
 {
-    if size < BODY_LIMIT {
+    if size < BODY_MAX {
         return size as u32;
     }
-    BODY_LIMIT as u32
+    BODY_MAX as u32
 }
 
 // How many bytes stand before the first 0x1A; all of them where there is none.
@@ -108,10 +108,10 @@ fn straight(r: Reader, rest: &[u8], room: u32) -> usize
         return 0;
     }
     let most = at_most((room - r.body) as usize, rest.len());
-    if r.place == DATA {
+    if r.place == DATA_PLACE {
         return at_most(r.left as usize, most);
     }
-    if r.place == BODY {
+    if r.place == BODY_PLACE {
         return before_mark(&rest[..most]);
     }
     0
@@ -126,7 +126,7 @@ fn carry(r: Reader, bytes: &[u8], store: &mut [u8]) -> Reader
     let n = bytes.len();
     let mut t = r;
     t.body = r.body + n as u32;
-    if r.place == DATA {
+    if r.place == DATA_PLACE {
         t.left = r.left - n as u16;
         t.sum = std::num::wrapping_add_u8(r.sum, checksum::sum(bytes));
         return t;
@@ -143,7 +143,7 @@ fn carry_byte(r: Reader, b: u8, store: &mut [u8]) -> Reader
     store[at] = b;
     let mut t = r;
     t.body = r.body + 1;
-    if r.place == DATA {
+    if r.place == DATA_PLACE {
         t.left = r.left - 1;
         t.sum = std::num::wrapping_add_u8(r.sum, b);
         return t;
@@ -152,8 +152,8 @@ fn carry_byte(r: Reader, b: u8, store: &mut [u8]) -> Reader
 }
 
 // Reads a portion, up to its end or an outcome. The heading goes to `heading`, the body to `store`, of which it takes 65,535 bytes at most.
-pub fn feed(r: Reader, input: &[u8], heading: &mut [u8], store: &mut [u8]) -> Fed
-    ensures { λ f. ⌜ run f (now (heading .exit)) (now (store .exit)) ≡ feedOf (roomOf (now (store .entry))) r (now (input .entry)) (now (heading .entry)) (now (store .entry)) ⌝ }
+pub fn feed(r: Reader, input: &[u8], heading: &mut [u8], store: &mut [u8]) -> FedPortion
+    ensures { λ f. ⌜ portionRead f (now (heading .exit)) (now (store .exit)) ≡ feedOf (roomOf (now (store .entry))) r (now (input .entry)) (now (heading .entry)) (now (store .entry)) ⌝ }
 {
     let room = room_of(store.len());
     let mut t = r;
@@ -173,15 +173,15 @@ pub fn feed(r: Reader, input: &[u8], heading: &mut [u8], store: &mut [u8]) -> Fe
         i += 1;
         let outcome = s.outcome;
         if !goes_on(outcome) {
-            return Fed {
+            return FedPortion {
                 outcome,
                 reader: t,
                 count: i,
             };
         }
     }
-    Fed {
-        outcome: Outcome::More,
+    FedPortion {
+        outcome: ReadOutcome::More,
         reader: t,
         count: i,
     }

@@ -6,7 +6,7 @@ use native.Mathlib.Omega.{arith}
 use lib.Dec.{eqb}
 use borrow.Author.Tests.{eq-eqb, ne-eqb}
 use Rattle.transfer_step.specs.declared.Reader.{Reader}
-use Rattle.transfer_step.specs.declared.Stepped.{Stepped}
+use Rattle.transfer_step.specs.declared.ReadStep.{ReadStep}
 use Rattle.transfer_step.specs.Step.{stepAt, stepOf}
 use Rattle.grammar.specs.Bytes.{byteValues}
 
@@ -18,6 +18,6 @@ pub sum-open : (s b : ℕ) {n : ℕ} → s < byteValues → b < byteValues → (
 sum-open s b hs hb e hn t = ne-eqb ((s + b) % byteValues) 0 (λ z. t (omega arith))
 
 -- the dispatch on the place
-pub at-place : {s : Stepped} (room : ℕ) (r : Reader) (k b : ℕ) → r .place ≡ k → s ≡ stepAt k room r b → s ≡ stepOf room r b
+pub at-place : {s : ReadStep} (room : ℕ) (r : Reader) (k b : ℕ) → r .place ≡ k → s ≡ stepAt k room r b → s ≡ stepOf room r b
 unfolding stepOf
 at-place room r k b e f = f ∙ ap (λ (p : ℕ). stepAt p room r b) (sym e)

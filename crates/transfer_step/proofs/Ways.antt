@@ -11,36 +11,36 @@ use Rattle.grammar.specs.Transfers.{blockSize, besideLeast, offsetDigit, header
 use Rattle.grammar.proofs.Basics.{and2, by-test, by-cond}
 use Rattle.grammar.specs.Scan.{besideMost, lenLeast, lenMost}
 use Rattle.transfer_step.specs.declared.Reader.{Reader}
-use Rattle.transfer_step.specs.declared.Stepped.{Stepped}
-use Rattle.transfer_step.specs.declared.Outcome.{Outcome}
-use Rattle.transfer_step.specs.declared.Outcome.the-variants.{Whole, Malformed, WrongSum, NoRoom}
-use Rattle.transfer_step.specs.Step.{reader, at, headingMore, onward, ended, titleStep, bodyStep, markStep, beginStep, lengthStep, headingStep, offsetStep, dataStep, sizeStep, sumStep, stepAt, stepOf}
+use Rattle.transfer_step.specs.declared.ReadStep.{ReadStep}
+use Rattle.transfer_step.specs.declared.ReadOutcome.{ReadOutcome}
+use Rattle.transfer_step.specs.declared.ReadOutcome.the-variants.{Whole, Malformed, WrongSum, NoRoom}
+use Rattle.transfer_step.specs.Step.{reader, readerAt, headingMore, readingGoesOn, readingEnds, titleStep, bodyStep, markStep, beginStep, lengthStep, headingStep, offsetStep, dataStep, sizeStep, sumStep, stepAt, stepOf}
 use Rattle.transfer_step.specs.Names.{titlePlace, bodyPlace, markPlace, startPlace, lengthPlace, headingPlace, offsetPlace, dataPlace, sizePlace, checksumPlace, nowhere, toHeading, toBody}
 use Rattle.places.specs.Places.{headingMax}
 
-module _ (room : ℕ) (r : Reader) (b : ℕ) (P : Stepped → Type 0) where
+module _ (room : ℕ) (r : Reader) (b : ℕ) (P : ReadStep → Type 0) where
   pub record Ways : Type 0 where
     -- it is whole, or refused
-    pub ends : (o : Outcome) → P (ended r o)
+    pub ends : (o : ReadOutcome) → P (readingEnds r o)
     -- a space before the last CR
-    pub skips : P (onward r nowhere)
+    pub skips : P (readingGoesOn r nowhere)
     -- on to another place
-    pub goes : (p : ℕ) → p ≤ checksumPlace → P (onward (at p r) nowhere)
+    pub goes : (p : ℕ) → p ≤ checksumPlace → P (readingGoesOn (readerAt p r) nowhere)
     -- L
-    pub length : P (onward (reader headingPlace b (r .head) (r .off) (r .left) (r .sum) (r .body)) nowhere)
+    pub length : P (readingGoesOn (reader headingPlace b (r .head) (r .off) (r .left) (r .sum) (r .body)) nowhere)
     -- a byte of the heading
-    pub heading : r .head < headingMax → P (onward (headingMore r) toHeading)
+    pub heading : r .head < headingMax → P (readingGoesOn (headingMore r) toHeading)
     -- a digit of the offset, and the end of the header
-    pub digit : r .head + r .off + headerNuls < r .len → P (onward (reader (r .place) (r .len) (r .head) (r .off + 1) (r .left) (r .sum) (r .body)) nowhere)
-    pub header : P (onward (reader dataPlace 0 (r .head) 0 (r .left) (r .sum) (r .body)) nowhere)
+    pub digit : r .head + r .off + headerNuls < r .len → P (readingGoesOn (reader (r .place) (r .len) (r .head) (r .off + 1) (r .left) (r .sum) (r .body)) nowhere)
+    pub header : P (readingGoesOn (reader dataPlace 0 (r .head) 0 (r .left) (r .sum) (r .body)) nowhere)
     -- n
-    pub size : P (onward (reader dataPlace (r .len) (r .head) (r .off) (blockSize b) (r .sum) (r .body)) nowhere)
+    pub size : P (readingGoesOn (reader dataPlace (r .len) (r .head) (r .off) (blockSize b) (r .sum) (r .body)) nowhere)
     -- a byte of a plain body, and of a block
-    pub body : r .body < room → P (onward (reader (r .place) (r .len) (r .head) (r .off) (r .left) (r .sum) (r .body + 1)) toBody)
-    pub block : r .body < room → P (onward (reader (r .place) (r .len) (r .head) (r .off) (r .left - 1) ((r .sum + b) % byteValues) (r .body + 1)) toBody)
+    pub body : r .body < room → P (readingGoesOn (reader (r .place) (r .len) (r .head) (r .off) (r .left) (r .sum) (r .body + 1)) toBody)
+    pub block : r .body < room → P (readingGoesOn (reader (r .place) (r .len) (r .head) (r .off) (r .left - 1) ((r .sum + b) % byteValues) (r .body + 1)) toBody)
 
   module _ (w : Ways) where
-    bad : P (ended r Malformed)
+    bad : P (readingEnds r Malformed)
     bad = w .ends Malformed
 
     title-way : P (titleStep r b)

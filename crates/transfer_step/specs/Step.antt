@@ -8,14 +8,14 @@ use Rattle.grammar.specs.Fields.{headingByte, plain, formNumber}
 use Rattle.grammar.specs.Transfers.{blockSize, besideLeast, offsetDigit, headerNuls}
 use Rattle.grammar.specs.Scan.{besideMost, lenLeast, lenMost}
 use Rattle.transfer_step.specs.declared.Reader.{Reader}
-use Rattle.transfer_step.specs.declared.Stepped.{Stepped}
-use Rattle.transfer_step.specs.declared.Outcome.{Outcome}
-use Rattle.transfer_step.specs.declared.Outcome.the-variants.{More, Whole, Malformed, WrongSum, NoRoom}
+use Rattle.transfer_step.specs.declared.ReadStep.{ReadStep}
+use Rattle.transfer_step.specs.declared.ReadOutcome.{ReadOutcome}
+use Rattle.transfer_step.specs.declared.ReadOutcome.the-variants.{More, Whole, Malformed, WrongSum, NoRoom}
 use Rattle.transfer_step.specs.Names.{titlePlace, bodyPlace, markPlace, startPlace, lengthPlace, headingPlace, offsetPlace, dataPlace, sizePlace, checksumPlace, nowhere, toHeading, toBody}
 use Rattle.places.specs.Places.{headingMax}
 
 -- 01's number for each outcome: "no refusal", "transfer wrong in header, title, offset or mark", "checksum wrong", "body byte without room"
-abbrev pub outcomeNumber : Outcome → ℕ
+abbrev pub outcomeNumber : ReadOutcome → ℕ
 outcomeNumber More = 0
 outcomeNumber Whole = 0
 outcomeNumber Malformed = badTransfer
@@ -23,7 +23,7 @@ outcomeNumber WrongSum = badChecksum
 outcomeNumber NoRoom = storeFull
 
 -- The next byte is of this transfer too.
-abbrev pub goesOn : Outcome → Bool
+abbrev pub goesOn : ReadOutcome → Bool
 goesOn More = true
 goesOn Whole = false
 goesOn Malformed = false
@@ -35,85 +35,85 @@ abbrev pub reader : ℕ → ℕ → ℕ → ℕ → ℕ → ℕ → ℕ → Read
 reader p l h o k s x = record { place = p; len = l; head = h; off = o; left = k; sum = s; body = x }
 
 -- The same reading at another place.
-abbrev pub at : ℕ → Reader → Reader
-at p r = reader p (r .len) (r .head) (r .off) (r .left) (r .sum) (r .body)
+abbrev pub readerAt : ℕ → Reader → Reader
+readerAt p r = reader p (r .len) (r .head) (r .off) (r .left) (r .sum) (r .body)
 
 -- One byte more of the heading.
 abbrev pub headingMore : Reader → Reader
 headingMore r = reader (r .place) (r .len) (r .head + 1) (r .off) (r .left) (r .sum) (r .body)
 
 -- The reading goes on; put: the byte is kept nowhere, it is the heading's, or the body's.
-abbrev pub onward : Reader → ℕ → Stepped
-onward r p = record { outcome = More; reader = r; put = p }
+abbrev pub readingGoesOn : Reader → ℕ → ReadStep
+readingGoesOn r p = record { outcome = More; reader = r; put = p }
 
 -- The reading ends; heading and body are as they were before the byte.
-abbrev pub ended : Reader → Outcome → Stepped
-ended r o = record { outcome = o; reader = r; put = nowhere }
+abbrev pub readingEnds : Reader → ReadOutcome → ReadStep
+readingEnds r o = record { outcome = o; reader = r; put = nowhere }
 
 -- Before the first byte; form: 0 plain, any other number framed.
 abbrev pub startOf : ℕ → Reader
 startOf form = reader (cond (eqb form (formNumber plain)) titlePlace startPlace) 0 0 0 0 0 0
 
 -- "Plain: title, CR": "1 to 80 bytes in 0x20-0xFF"
-unfoldable pub titleStep : Reader → ℕ → Stepped
+unfoldable pub titleStep : Reader → ℕ → ReadStep
 titleStep r b =
     cond (eqb b CR)
-    (cond (eqb (r .head) 0) (ended r Malformed) (onward (at bodyPlace r) nowhere))
-    (cond (headingByte b && ltb (r .head) headingMax) (onward (headingMore r) toHeading) (ended r Malformed))
+    (cond (eqb (r .head) 0) (readingEnds r Malformed) (readingGoesOn (readerAt bodyPlace r) nowhere))
+    (cond (headingByte b && ltb (r .head) headingMax) (readingGoesOn (headingMore r) toHeading) (readingEnds r Malformed))
 
 -- "body, 0x1A": "body byte without room" is refused
-unfoldable pub bodyStep : ℕ → Reader → ℕ → Stepped
+unfoldable pub bodyStep : ℕ → Reader → ℕ → ReadStep
 bodyStep room r b =
-    cond (eqb b CTRLZ) (onward (at markPlace r) nowhere)
-    (cond (ltb (r .body) room) (onward (reader (r .place) (r .len) (r .head) (r .off) (r .left) (r .sum) (r .body + 1)) toBody) (ended r NoRoom))
+    cond (eqb b CTRLZ) (readingGoesOn (readerAt markPlace r) nowhere)
+    (cond (ltb (r .body) room) (readingGoesOn (reader (r .place) (r .len) (r .head) (r .off) (r .left) (r .sum) (r .body + 1)) toBody) (readingEnds r NoRoom))
 
 -- "CR. Spaces between the last two are skipped on reading."
-unfoldable pub markStep : Reader → ℕ → Stepped
-markStep r b = cond (eqb b CR) (ended r Whole) (cond (eqb b SP) (onward r nowhere) (ended r Malformed))
+unfoldable pub markStep : Reader → ℕ → ReadStep
+markStep r b = cond (eqb b CR) (readingEnds r Whole) (cond (eqb b SP) (readingGoesOn r nowhere) (readingEnds r Malformed))
 
 -- "Framed: 01"
-unfoldable pub beginStep : Reader → ℕ → Stepped
-beginStep r b = cond (eqb b SOH) (onward (at lengthPlace r) nowhere) (ended r Malformed)
+unfoldable pub beginStep : Reader → ℕ → ReadStep
+beginStep r b = cond (eqb b SOH) (readingGoesOn (readerAt lengthPlace r) nowhere) (readingEnds r Malformed)
 
 -- "L": a heading of 1 to 80 bytes, 1 to 6 digits, and 2
-unfoldable pub lengthStep : Reader → ℕ → Stepped
-lengthStep r b = cond (leb lenLeast b && leb b lenMost) (onward (reader headingPlace b (r .head) (r .off) (r .left) (r .sum) (r .body)) nowhere) (ended r Malformed)
+unfoldable pub lengthStep : Reader → ℕ → ReadStep
+lengthStep r b = cond (leb lenLeast b && leb b lenMost) (readingGoesOn (reader headingPlace b (r .head) (r .off) (r .left) (r .sum) (r .body)) nowhere) (readingEnds r Malformed)
 
 -- "heading, 00": 1 to 6 digits must still make up L
-unfoldable pub headingStep : Reader → ℕ → Stepped
+unfoldable pub headingStep : Reader → ℕ → ReadStep
 headingStep r b =
     cond (eqb b NUL)
-    (cond (eqb (r .head) 0 || ltb (r .head + besideMost) (r .len)) (ended r Malformed) (onward (at offsetPlace r) nowhere))
-    (cond (headingByte b && (ltb (r .head) headingMax && ltb (r .head + besideLeast) (r .len))) (onward (headingMore r) toHeading) (ended r Malformed))
+    (cond (eqb (r .head) 0 || ltb (r .head + besideMost) (r .len)) (readingEnds r Malformed) (readingGoesOn (readerAt offsetPlace r) nowhere))
+    (cond (headingByte b && (ltb (r .head) headingMax && ltb (r .head + besideLeast) (r .len))) (readingGoesOn (headingMore r) toHeading) (readingEnds r Malformed))
 
 -- "offset digits, 00": "L = heading + offset + 2", "value 0"
-unfoldable pub offsetStep : Reader → ℕ → Stepped
+unfoldable pub offsetStep : Reader → ℕ → ReadStep
 offsetStep r b =
     cond (eqb b NUL)
-    (cond (eqb (r .len) (r .head + r .off + headerNuls)) (onward (reader dataPlace 0 (r .head) 0 (r .left) (r .sum) (r .body)) nowhere) (ended r Malformed))
+    (cond (eqb (r .len) (r .head + r .off + headerNuls)) (readingGoesOn (reader dataPlace 0 (r .head) 0 (r .left) (r .sum) (r .body)) nowhere) (readingEnds r Malformed))
     (cond (eqb b offsetDigit && ltb (r .head + r .off + headerNuls) (r .len))
-    (onward (reader (r .place) (r .len) (r .head) (r .off + 1) (r .left) (r .sum) (r .body)) nowhere)
-    (ended r Malformed))
+    (readingGoesOn (reader (r .place) (r .len) (r .head) (r .off + 1) (r .left) (r .sum) (r .body)) nowhere)
+    (readingEnds r Malformed))
 
 -- "blocks 02, n, data; 04"
-unfoldable pub dataStep : ℕ → Reader → ℕ → Stepped
+unfoldable pub dataStep : ℕ → Reader → ℕ → ReadStep
 dataStep room r b =
     cond (eqb (r .left) 0)
-    (cond (eqb b STX) (onward (at sizePlace r) nowhere) (cond (eqb b EOT) (onward (at checksumPlace r) nowhere) (ended r Malformed)))
+    (cond (eqb b STX) (readingGoesOn (readerAt sizePlace r) nowhere) (cond (eqb b EOT) (readingGoesOn (readerAt checksumPlace r) nowhere) (readingEnds r Malformed)))
     (cond (ltb (r .body) room)
-    (onward (reader (r .place) (r .len) (r .head) (r .off) (r .left - 1) ((r .sum + b) % byteValues) (r .body + 1)) toBody)
-    (ended r NoRoom))
+    (readingGoesOn (reader (r .place) (r .len) (r .head) (r .off) (r .left - 1) ((r .sum + b) % byteValues) (r .body + 1)) toBody)
+    (readingEnds r NoRoom))
 
 -- "n = 00 means 256."
-unfoldable pub sizeStep : Reader → ℕ → Stepped
-sizeStep r b = onward (reader dataPlace (r .len) (r .head) (r .off) (blockSize b) (r .sum) (r .body)) nowhere
+unfoldable pub sizeStep : Reader → ℕ → ReadStep
+sizeStep r b = readingGoesOn (reader dataPlace (r .len) (r .head) (r .off) (blockSize b) (r .sum) (r .body)) nowhere
 
 -- "The checksum makes the sum of all data bytes plus itself 0 modulo 256."
-unfoldable pub sumStep : Reader → ℕ → Stepped
-sumStep r b = cond (eqb ((r .sum + b) % byteValues) 0) (ended r Whole) (ended r WrongSum)
+unfoldable pub sumStep : Reader → ℕ → ReadStep
+sumStep r b = cond (eqb ((r .sum + b) % byteValues) 0) (readingEnds r Whole) (readingEnds r WrongSum)
 
 -- One byte by the place; any other number: the checksum.
-unfoldable pub stepAt : ℕ → ℕ → Reader → ℕ → Stepped
+unfoldable pub stepAt : ℕ → ℕ → Reader → ℕ → ReadStep
 stepAt place room r b =
     cond (eqb place titlePlace) (titleStep r b)
     (cond (eqb place bodyPlace) (bodyStep room r b)
@@ -127,5 +127,5 @@ stepAt place room r b =
     (sumStep r b)))))))))
 
 -- One byte; room is how many bytes the store takes of this body.
-unfoldable pub stepOf : ℕ → Reader → ℕ → Stepped
+unfoldable pub stepOf : ℕ → Reader → ℕ → ReadStep
 stepOf room r b = stepAt (r .place) room r b

@@ -11,8 +11,8 @@ use borrow.Author.Tests.{leb-true, leb-false}
 use Rattle.grammar.specs.Bytes.{Bytes, CR, CTRLZ, byteValues, STX, EOT}
 use Rattle.grammar.specs.Transfers.{blocksOut, checksum, headerOut, writeFramed, writePlain, besideLeast, dataMax}
 use Rattle.buffer.specs.declared.Cursor.{Cursor}
-use Rattle.buffer.specs.Put.{putBytes, putCursor, Puts}
-use Rattle.buffer.proofs.Laws.{cursor, puts-as, puts-then, puts-full, puts-past, puts-none, after-cursor, after-bytes}
+use Rattle.buffer.specs.Put.{putBytes, putCursor, Puts, cursor}
+use Rattle.buffer.proofs.Laws.{puts-as, puts-then, puts-full, puts-past, puts-none, after-cursor, after-bytes}
 use Rattle.transfer_step.specs.Names.{blockBytes}
 
 -- one block, and the blocks of a body
@@ -78,14 +78,14 @@ module _ (x : Bytes) (i e : ℕ) (h : i < length x) (q : e ≡ min (i + dataMax)
       ∙ sym (blocks-step (drop i x) (omega arith))
 
 -- the blocks from i on, put into b at d, come to the blocks of x, put into b₀ at c
-abbrev pub Left : Bytes → Cursor → Bytes → Bytes → Cursor → ℕ → Type 0
-Left b₀ c x b d i =
+abbrev pub BlocksLeft : Bytes → Cursor → Bytes → Bytes → Cursor → ℕ → Type 0
+BlocksLeft b₀ c x b d i =
     (putCursor (length b) d (blocksOf (drop i x)) ≡ putCursor (length b₀) c (blocksOf x)) × (putBytes b d (blocksOf (drop i x)) ≡ putBytes b₀ c (blocksOf x))
 
-module _ (b₀ : Bytes) (c : Cursor) (x b : Bytes) (d : Cursor) (i : ℕ) (a : Left b₀ c x b d i) where
+module _ (b₀ : Bytes) (c : Cursor) (x b : Bytes) (d : Cursor) (i : ℕ) (a : BlocksLeft b₀ c x b d i) where
   -- a turn of the loop
   pub left-more : (e : ℕ) {d′ : Cursor} {b′ : Bytes} → i < length x → e ≡ min (i + dataMax) (length x) → Puts b d (block (take (e - i) (drop i x))) d′ b′
-      → Left b₀ c x b′ d′ e
+      → BlocksLeft b₀ c x b′ d′ e
   left-more e h q p =
       let t = blocks-more x i e h q in
       let y = block (take (e - i) (drop i x)) in (

@@ -18,8 +18,7 @@ const WHOLE_BLOCK: usize = BLOCK_HEAD + BLOCK_DATA;
 // What L counts beside the heading: the offset `0`, and the NULs.
 const BESIDE_HEADING: usize = transfer_step::OFFSET_LEAST as usize;
 
-// How many values a byte has.
-const BYTE_VALUES: usize = 256;
+const BYTE_VALUES: usize = byte::BYTE_VALUES;
 
 // A plain transfer: title, CR, body, 0x1A, CR.
 pub fn write_plain(buf: &mut [u8], c: Cursor, title: &[u8], body: &[u8]) -> Cursor
@@ -151,7 +150,7 @@ pub fn write_framed(buf: &mut [u8], c: Cursor, heading: &[u8], body: &[u8]) -> C
 }
 
 // The heading of a record's transfer, where it lies: the file name for a file (form 2), else the title.
-pub fn heading<'a>(
+pub fn write_heading<'a>(
     titles: &'a [u8],
     names: &'a [u8],
     form: u8,

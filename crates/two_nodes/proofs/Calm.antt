@@ -19,7 +19,7 @@ use Rattle.grammar.proofs.Basics.{and2, no-both, not-so, by-cond, field-is}
 use Rattle.mail.specs.Mail.{Record, messageOf, headingFor, transferOf, recordAt, proposalOf, turnText, transfersText, accepted}
 use Rattle.session.specs.Choices.{Shelf, chosen, answersTo}
 use Rattle.session.specs.Session.{kindDue, Awaited, Memory, Session, Outcome, refuses, goesOn, speaking, turnMarks, answering, Stepped, settled, isPlain, keptIn, nextTransfer, step, ourSignOn}
-use Rattle.session.proofs.Ways.{Judged, isWrong, hearsSid, hearsText, hearsPrompt, hearsProposal, hearsFF, hearsFQ, hearsEnd, hearsFs, Way, isRefused, dropsLf, growsLine, ignoresLine, hearsLine, readsOn, readsLast, way}
+use Rattle.session.proofs.Ways.{LineOutcome, isWrong, hearsSid, hearsText, hearsPrompt, hearsProposal, hearsFF, hearsFQ, hearsEnd, hearsFs, Way, isRefused, dropsLf, growsLine, ignoresLine, hearsLine, readsOn, readsLast, way}
 use Rattle.log.specs.Log.{Event, took, gave}
 use Rattle.two_nodes.specs.Link.{gaveIn}
 use Rattle.two_nodes.specs.Fates.{allSendable}
@@ -94,7 +94,7 @@ module _ (E : Shelf) (h : allSendable (E .table) ≡ true) where
   answering-calm ss [] m = after-calm (withCr (fsLine ss)) (fs-calm ss) false (chosen (E .table) (m .framed) (m .states) (m .deferred)) m
   answering-calm ss (p ∷ ps) m = fs-only ss
 
-  line-judged : (m : Memory) (ln : Bytes) {a : Awaited} (o : Outcome) → Judged E m ln a o → Calm o
+  line-judged : (m : Memory) (ln : Bytes) {a : Awaited} (o : Outcome) → LineOutcome E m ln a o → Calm o
   line-judged m ln o (isWrong n w) = tt
   line-judged m ln o (hearsSid c fs e f) = refl
   line-judged m ln o (hearsText e) = refl

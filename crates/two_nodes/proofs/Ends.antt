@@ -10,7 +10,7 @@ use lib.Dec.{eqb}
 use lib.ListN.{length}
 use Rattle.grammar.specs.Bytes.{Bytes, null, isSome}
 use Rattle.grammar.specs.Ascii.{text}
-use Rattle.grammar.specs.Fields.{after}
+use Rattle.grammar.specs.Fields.{afterCapitals}
 use Rattle.grammar.specs.Refusals.{badAnswer, lineNotAllowed}
 use Rattle.grammar.specs.Lines.{ends, trim}
 use Rattle.grammar.specs.Sid.{framed}
@@ -20,7 +20,7 @@ use Rattle.grammar.proofs.Basics.{no-both, or2}
 use Rattle.mail.specs.Mail.{messageOf, accepted}
 use Rattle.session.specs.Choices.{Shelf, chosen, answersTo}
 use Rattle.session.specs.Session.{kindDue, Awaited, Phase, over, Memory, Session, Outcome, refuses, goesOn, speaking, turnMarks, answering, levelInForce, Stepped, settled, isPlain, keptIn, nextTransfer, step, ended, endedIn, opened}
-use Rattle.session.proofs.Ways.{Wrong, noSid, noF, noTurnLine, ffAfterFf, ffInBlock, fqFirst, fqInBlock, emptyBlock, emptySummed, tooMany, wrongHex, noAnswer, Judged, isWrong, hearsSid, hearsText, hearsPrompt, hearsProposal, hearsFF, hearsFQ, hearsEnd, hearsFs, why-number, Way, isRefused, dropsLf, growsLine, ignoresLine, hearsLine, readsOn, readsLast, way}
+use Rattle.session.proofs.Ways.{Wrong, noSid, noF, noTurnLine, ffAfterFf, ffInBlock, fqFirst, fqInBlock, emptyBlock, emptySummed, tooMany, wrongHex, noAnswer, LineOutcome, isWrong, hearsSid, hearsText, hearsPrompt, hearsProposal, hearsFF, hearsFQ, hearsEnd, hearsFs, why-number, Way, isRefused, dropsLf, growsLine, ignoresLine, hearsLine, readsOn, readsLast, way}
 use Rattle.demand3.specs.Demand.{Call, receiving, giving, refusedCall, run}
 use Rattle.two_nodes.specs.Session.{End, ran, FqArrives}
 use Rattle.session.specs.Calls.{Received, oneMore, stoppedAt, stops, receiveOn, receive, give}
@@ -43,7 +43,7 @@ never e = absurd (no-both false e refl)
 
 -- "FS line wrong in form or count": its number is not 0
 answer-numbered : (v : Level) (n : ℕ) (ln : Bytes) → readFs v n ln ≡ none → fsNumber v n ln ≡ 0 → ⊥
-answer-numbered v n ln e h = go (isSome (after (text "FS") ln)) (sym (ap (λ (o : Option (List Sign)). cond (isSome o) 0 (cond (isSome (after (text "FS") ln)) badAnswer lineNotAllowed)) e) ∙ h)
+answer-numbered v n ln e h = go (isSome (afterCapitals (text "FS") ln)) (sym (ap (λ (o : Option (List Sign)). cond (isSome o) 0 (cond (isSome (afterCapitals (text "FS") ln)) badAnswer lineNotAllowed)) e) ∙ h)
   where
     go : (c : Bool) → cond c badAnswer lineNotAllowed ≡ 0 → ⊥
     go true k = omega arith
@@ -74,7 +74,7 @@ module _ (E : Shelf) where
   wrong-numbered m ln n (wrongHex ff p ps c e f) h = omega arith
   wrong-numbered m ln n (noAnswer is e) h = answer-numbered (levelInForce m) (length is) (trim ln) e h
 
-  line-ends : (m : Memory) (ln : Bytes) {a : Awaited} (o : Outcome) → Judged E m ln a o → Ending o
+  line-ends : (m : Memory) (ln : Bytes) {a : Awaited} (o : Outcome) → LineOutcome E m ln a o → Ending o
   line-ends m ln o (isWrong n w) = wrong-numbered m ln n w
   line-ends m ln o (hearsSid true fs e f) = λ k. never k
   line-ends m ln o (hearsSid false fs e f) = λ k. never k

@@ -32,21 +32,21 @@ use Rattle.demand2.specs.OurTurn.{rising}
 use Rattle.demand2.proofs.Marks.{accepted-is, answer-marks, turn-marks}
 use Rattle.demand2.proofs.Events.{happens}
 use Rattle.demand2.proofs.OurTurn.{block-exact}
-use Rattle.demand3.proofs.Choice.{proposalsAt, sound}
-use Rattle.two_nodes.specs.Fates.{messageFor, Fates, allSendable, Sound}
+use Rattle.demand3.proofs.Choice.{proposalsFor, sound}
+use Rattle.two_nodes.specs.Fates.{messageFor, Fates, allSendable, SoundShelf}
 use Rattle.two_nodes.proofs.Fates.{has-last, fate-more, AllHas, all-more, all-snoc, fate-marked, fate-declined}
-use Rattle.two_nodes.proofs.Hears.{Hears, Heard, headLf, begun, hears-line, hears-transfer}
+use Rattle.two_nodes.proofs.Hears.{Hears, Heard, headLf, lineAwaited, hears-line, hears-transfer}
 use Rattle.two_nodes.proofs.Answers.{declined-have}
 
 -- ---------------------------------------------------------------- the kinds
 
 -- our answer to the other end's block of the records at these places
 abbrev pub signsFor : Shelf → Memory → List Record → List ℕ → List Sign
-signsFor E m T is = answersTo E (m .inbox) (proposalsAt T is)
+signsFor E m T is = answersTo E (m .inbox) (proposalsFor T is)
 
 -- and what follows it: the transfers of what we accept, or our turn
 abbrev pub replyFor : Shelf → Memory → List Record → List ℕ → Session
-replyFor E m T is = transfersOr E true (withCr (fsLine (signsFor E m T is))) (withSign accept (proposalsAt T is) (signsFor E m T is)) m
+replyFor E m T is = transfersOr E true (withCr (fsLine (signsFor E m T is))) (withSign accept (proposalsFor T is) (signsFor E m T is)) m
 
 -- E, p, m, o: what the speaker was opened with, its phase and memory, and the bytes that it says; F, q, n: the listener's
 pub data Handover (E F : Shelf) (p : Phase) (m : Memory) (o : Bytes) (q : Phase) (n : Memory) : Type 0 where
@@ -64,7 +64,7 @@ pub data Handover (E F : Shelf) (p : Phase) (m : Memory) (o : Bytes) (q : Phase)
       → m .framed ≡ true → n .framed ≡ true → m .sending ≡ [] → n .sending ≡ [] → Handover E F p m o q n
   -- the accepted transfers
   sends : (j : ℕ) (js : List ℕ) → Places true (E .table) (j ∷ js) → p ≡ newTurn false → o ≡ transfersSaid (E .table) (j ∷ js)
-      → q ≡ awaitsTransfer (proposalOf (recordAt (E .table) j)) (proposalsAt (E .table) js) (scanFrom (kindDue n (proposalOf (recordAt (E .table) j))))
+      → q ≡ awaitsTransfer (proposalOf (recordAt (E .table) j)) (proposalsFor (E .table) js) (scanFrom (kindDue n (proposalOf (recordAt (E .table) j))))
       → m .framed ≡ true → n .framed ≡ true → m .sending ≡ j ∷ js → n .sending ≡ [] → Handover E F p m o q n
 
 -- The listener u has heard all and speaks; the speaker's phase is p and its memory m.
@@ -102,7 +102,7 @@ speaks-on E F p m o q n (greets e k f sm sn) z = let y : _≡_ {A = ℕ} 0 1 = c
 speaks-on E F p m o q n (signsOn e k f fm sm sn) z = turn-awaits false (proposed E m) (sym e ∙ z)
 speaks-on E F p m o q n (turns ff e k f fm fn sm a x) z = turn-awaits ff (proposed E m) (sym e ∙ z)
 speaks-on E F p m o q n (answers i is own f e k fm fn sm sn) z =
-    transfers-or E (withCr (fsLine (signsFor E m (F .table) (i ∷ is)))) (withSign accept (proposalsAt (F .table) (i ∷ is)) (signsFor E m (F .table) (i ∷ is))) m (sym e ∙ z)
+    transfers-or E (withCr (fsLine (signsFor E m (F .table) (i ∷ is)))) (withSign accept (proposalsFor (F .table) (i ∷ is)) (signsFor E m (F .table) (i ∷ is))) m (sym e ∙ z)
 speaks-on E F p m o q n (sends j js h e k f fm fn sm sn) z = let y : _≡_ {A = ℕ} 0 1 = cc in omega arith
 
 -- ---------------------------------------------------------------- small things
@@ -145,13 +145,13 @@ sendable-at (r ∷ T) zero h k = (and2 (sendable (r .form) (headingFor (r .form)
 sendable-at (r ∷ T) (suc j) h k = sendable-at T j ((and2 (sendable (r .form) (headingFor (r .form) r) (r .body)) (allSendable T) h) .1) (le-of-suc-le-suc k)
 
 -- accepted proposals are the proposals of the accepted places
-accepted-at : (T : List Record) (is : List ℕ) (ss : List Sign) → withSign accept (proposalsAt T is) ss ≡ proposalsAt T (withSign accept is ss)
+accepted-at : (T : List Record) (is : List ℕ) (ss : List Sign) → withSign accept (proposalsFor T is) ss ≡ proposalsFor T (withSign accept is ss)
 accepted-at T [] ss = refl
 accepted-at T (i ∷ is) [] = refl
 accepted-at T (i ∷ is) (x ∷ ss) = go (isSign accept x) (accepted-at T is ss)
   where
-    go : (c : Bool) → withSign accept (proposalsAt T is) ss ≡ proposalsAt T (withSign accept is ss)
-        → cond c (proposalOf (recordAt T i) ∷ withSign accept (proposalsAt T is) ss) (withSign accept (proposalsAt T is) ss) ≡ proposalsAt T (cond c (i ∷ withSign accept is ss) (withSign accept is ss))
+    go : (c : Bool) → withSign accept (proposalsFor T is) ss ≡ proposalsFor T (withSign accept is ss)
+        → cond c (proposalOf (recordAt T i) ∷ withSign accept (proposalsFor T is) ss) (withSign accept (proposalsFor T is) ss) ≡ proposalsFor T (cond c (i ∷ withSign accept is ss) (withSign accept is ss))
     go true e = ap (λ (l : List Proposal). proposalOf (recordAt T i) ∷ l) e
     go false e = e
 
@@ -170,7 +170,7 @@ fs-alone ss = refl
 
 -- ---------------------------------------------------------------- what the listener makes of each kind
 
-module _ (E F : Shelf) (SE : Sound E) (SF : Sound F) (s t : List ℕ) (p : Phase) (m : Memory) where
+module _ (E F : Shelf) (SE : SoundShelf E) (SF : SoundShelf F) (s t : List ℕ) (p : Phase) (m : Memory) where
   abbrev pub P : Memory → Type 0
   P n = Fates E F s t m n
 
@@ -194,11 +194,11 @@ module _ (E F : Shelf) (SE : Sound E) (SF : Sound F) (s t : List ℕ) (p : Phase
 
   -- FF
   ff-heard : (n : Memory) (cr : Bool) → p ≡ newTurn true → proposed E m ≡ [] → m .framed ≡ true → n .framed ≡ true → m .sending ≡ []
-      → AllHas (F .table) (m .inbox) (n .sending) → P n → Hears F P R Q (begun (awaitsTurn false [] []) n cr []) (withCr (fixedText ourFF))
+      → AllHas (F .table) (m .inbox) (n .sending) → P n → Hears F P R Q (lineAwaited (awaitsTurn false [] []) n cr []) (withCr (fixedText ourFF))
   ff-heard n cr e z fm fn sm a c =
       hears-line F P R Q (awaitsTurn false [] []) n c (fixedText ourFF) cr [] (good-line (fixedLine ourFF) tt) refl
-      (λ d w. on (begun (awaitsTurn false [] []) n d (fixedText ourFF)) (weSpeak F true true [] (turnMarks n)) CR []
-      (happens F [] (begun (awaitsTurn false [] []) n d (fixedText ourFF)) CR tt (weSpeak F true true [] (turnMarks n))
+      (λ d w. on (lineAwaited (awaitsTurn false [] []) n d (fixedText ourFF)) (weSpeak F true true [] (turnMarks n)) CR []
+      (happens F [] (lineAwaited (awaitsTurn false [] []) n d (fixedText ourFF)) CR tt (weSpeak F true true [] (turnMarks n))
       (ffTurn (fixedText ourFF) (record { whole = w; awaited = refl }) (ff-read (n .framed)) (turnMarks n) (turn-marks n)))
       (inl
       (record {
@@ -210,17 +210,17 @@ module _ (E F : Shelf) (SE : Sound E) (SF : Sound F) (s t : List ℕ) (p : Phase
 
   -- FQ
   fq-heard : (n : Memory) (cr : Bool) → proposed E m ≡ [] → proposed F n ≡ [] → m .framed ≡ true → n .framed ≡ true → P n
-      → Hears F P R Q (begun (awaitsTurn true [] []) n cr []) (withCr (fixedText ourFQ))
+      → Hears F P R Q (lineAwaited (awaitsTurn true [] []) n cr []) (withCr (fixedText ourFQ))
   fq-heard n cr z y fm fn c =
       hears-line F P R Q (awaitsTurn true [] []) n c (fixedText ourFQ) cr [] (good-line (fixedLine ourFQ) tt) refl
-      (λ d w. on (begun (awaitsTurn true [] []) n d (fixedText ourFQ)) (between over true [] n) CR []
-      (happens F [] (begun (awaitsTurn true [] []) n d (fixedText ourFQ)) CR tt (between over true [] n)
+      (λ d w. on (lineAwaited (awaitsTurn true [] []) n d (fixedText ourFQ)) (between over true [] n) CR []
+      (happens F [] (lineAwaited (awaitsTurn true [] []) n d (fixedText ourFQ)) CR tt (between over true [] n)
       (fqTurn (fixedText ourFQ) (record { whole = w; awaited = refl }) (fq-read (n .framed))))
       (inr (record { phase = refl; silent = refl; claims = c; framedHere = fn; framedThere = fm; noneHere = y; noneThere = z })))
 
   module _ (i : ℕ) (is : List ℕ) (own : i ∷ is ≡ proposed E m) (e : p ≡ aLine (awaitsAnswer (i ∷ is))) (fm : m .framed ≡ true) (sm : m .sending ≡ []) where
     abbrev block : List Proposal
-    block = proposalsAt (E .table) (i ∷ is)
+    block = proposalsFor (E .table) (i ∷ is)
 
     -- the FS line of the listener waits
     fs-handed : (n : Memory) → n .framed ≡ true → n .sending ≡ [] → P n → (acc : List Proposal) → acc ≡ withSign accept block (answersTo F (n .inbox) block)
@@ -248,45 +248,45 @@ module _ (E F : Shelf) (SE : Sound E) (SF : Sound F) (s t : List ℕ) (p : Phase
 
     module _ (ff : Bool) (n : Memory) (fn : n .framed ≡ true) (a : AllHas (F .table) (m .inbox) (n .sending)) (c : P n) where
       -- F>
-      end-heard : (raw : Bytes) (cr : Bool) → Hears F P R Q (begun (awaitsTurn ff block raw) n cr []) (withCr (fixedText ourEnd))
+      end-heard : (raw : Bytes) (cr : Bool) → Hears F P R Q (lineAwaited (awaitsTurn ff block raw) n cr []) (withCr (fixedText ourEnd))
       end-heard raw cr =
           hears-line F P R Q (awaitsTurn ff block raw) n c (fixedText ourEnd) cr [] (good-line (fixedLine ourEnd) tt) refl
-          (λ d w. on (begun (awaitsTurn ff block raw) n d (fixedText ourEnd)) (transfersOr F true (withCr (fsLine (answersTo F (n .inbox) block))) (withSign accept block (answersTo F (n .inbox) block)) (turnMarks n)) CR []
-          (happens F [] (begun (awaitsTurn ff block raw) n d (fixedText ourEnd)) CR tt _
-          (blockEnd (fixedText ourEnd) ff (proposalOf (recordAt (E .table) i)) (proposalsAt (E .table) is) (record { whole = w; awaited = refl }) (subst (EndsBlock raw) (sym (end-read (n .framed))) bare) (turnMarks n) (turn-marks n)))
+          (λ d w. on (lineAwaited (awaitsTurn ff block raw) n d (fixedText ourEnd)) (transfersOr F true (withCr (fsLine (answersTo F (n .inbox) block))) (withSign accept block (answersTo F (n .inbox) block)) (turnMarks n)) CR []
+          (happens F [] (lineAwaited (awaitsTurn ff block raw) n d (fixedText ourEnd)) CR tt _
+          (blockEnd (fixedText ourEnd) ff (proposalOf (recordAt (E .table) i)) (proposalsFor (E .table) is) (record { whole = w; awaited = refl }) (subst (EndsBlock raw) (sym (end-read (n .framed))) bare) (turnMarks n) (turn-marks n)))
           (inl (fs-handed (turnMarks n) fn refl (marks-claims n a c) (withSign accept block (answersTo F (n .inbox) block)) refl)))
 
       -- the proposals at js, and F>
-      block-heard : (js : List ℕ) (ps : List Proposal) (raw : Bytes) (cr : Bool) → AllFit true (proposalsAt (E .table) js) → length ps + length js ≤ blockLimit
-          → ps ++ proposalsAt (E .table) js ≡ block → Hears F P R Q (begun (awaitsTurn ff ps raw) n cr []) (blockText (E .table) js)
+      block-heard : (js : List ℕ) (ps : List Proposal) (raw : Bytes) (cr : Bool) → AllFit true (proposalsFor (E .table) js) → length ps + length js ≤ blockLimit
+          → ps ++ proposalsFor (E .table) js ≡ block → Hears F P R Q (lineAwaited (awaitsTurn ff ps raw) n cr []) (blockText (E .table) js)
       block-heard [] ps raw cr f l k =
-          subst (λ (x : List Proposal). Hears F P R Q (begun (awaitsTurn ff x raw) n cr []) (withCr (fixedText ourEnd))) (sym (sym (append-nil ps) ∙ k)) (end-heard raw cr)
+          subst (λ (x : List Proposal). Hears F P R Q (lineAwaited (awaitsTurn ff x raw) n cr []) (withCr (fixedText ourEnd))) (sym (sym (append-nil ps) ∙ k)) (end-heard raw cr)
       block-heard (j ∷ js) ps raw cr f l k =
           let r : Proposal = proposalOf (recordAt (E .table) j) in
           let z = length-append ps (r ∷ []) in
           hears-line F P R Q (awaitsTurn ff ps raw) n c (proposalLine r) cr (blockText (E .table) js) (good-line (ourProposal r) (f .0 .0)) (proposal-head r)
-          (λ d w. on (begun (awaitsTurn ff ps raw) n d (proposalLine r)) (between (aLine (awaitsTurn ff (ps ++ (r ∷ [])) (raw ++ withCr (proposalLine r)))) true [] n) CR (blockText (E .table) js)
-          (happens F [] (begun (awaitsTurn ff ps raw) n d (proposalLine r)) CR tt (between (aLine (awaitsTurn ff (ps ++ (r ∷ [])) (raw ++ withCr (proposalLine r)))) true [] n)
+          (λ d w. on (lineAwaited (awaitsTurn ff ps raw) n d (proposalLine r)) (between (aLine (awaitsTurn ff (ps ++ (r ∷ [])) (raw ++ withCr (proposalLine r)))) true [] n) CR (blockText (E .table) js)
+          (happens F [] (lineAwaited (awaitsTurn ff ps raw) n d (proposalLine r)) CR tt (between (aLine (awaitsTurn ff (ps ++ (r ∷ [])) (raw ++ withCr (proposalLine r)))) true [] n)
           (proposal (proposalLine r) ff ps (record { whole = w; awaited = refl }) r (ap (λ (x : Bool). readTurnLine x (proposalLine r)) fn ∙ proposal-read true r (f .0 .0) (f .0 .1)) (omega arith)))
-          (block-heard js (ps ++ (r ∷ [])) (raw ++ withCr (proposalLine r)) true (f .1) (omega arith) (append-assoc ps (r ∷ []) (proposalsAt (E .table) js) ∙ k)))
+          (block-heard js (ps ++ (r ∷ [])) (raw ++ withCr (proposalLine r)) true (f .1) (omega arith) (append-assoc ps (r ∷ []) (proposalsFor (E .table) js) ∙ k)))
 
   -- A TURN
   turn-heard : (ff : Bool) (n : Memory) (cr : Bool) → p ≡ turnAwaits ff (proposed E m) → m .framed ≡ true → n .framed ≡ true → m .sending ≡ []
       → AllHas (F .table) (m .inbox) (n .sending) → (ff ≡ true → proposed F n ≡ []) → P n
-      → Hears F P R Q (begun (awaitsTurn ff [] []) n cr []) (turnSaid E ff (proposed E m))
+      → Hears F P R Q (lineAwaited (awaitsTurn ff [] []) n cr []) (turnSaid E ff (proposed E m))
   turn-heard ff n cr e fm fn sm a z c = go ff (proposed E m) refl e z
     where
-      S : Rattle.demand3.proofs.Choice.Sound E
+      S : Rattle.demand3.proofs.Choice.SoundChoice E
       S = sound E (SE .table)
 
-      fits : (is : List ℕ) → proposed E m ≡ is → AllFit true (proposalsAt (E .table) is)
-      fits is d = subst (λ (l : List ℕ). AllFit true (proposalsAt (E .table) l)) d (subst (λ (x : Bool). AllFit x (proposalsAt (E .table) (proposed E m))) fm (S .fit m))
+      fits : (is : List ℕ) → proposed E m ≡ is → AllFit true (proposalsFor (E .table) is)
+      fits is d = subst (λ (l : List ℕ). AllFit true (proposalsFor (E .table) l)) d (subst (λ (x : Bool). AllFit x (proposalsFor (E .table) (proposed E m))) fm (S .fit m))
 
       few : (is : List ℕ) → proposed E m ≡ is → length is ≤ blockLimit
       few is d = subst (λ (l : List ℕ). length l ≤ blockLimit) d (S .few m)
 
       go : (ff : Bool) (is : List ℕ) → proposed E m ≡ is → p ≡ turnAwaits ff is → (ff ≡ true → proposed F n ≡ [])
-          → Hears F P R Q (begun (awaitsTurn ff [] []) n cr []) (turnSaid E ff is)
+          → Hears F P R Q (lineAwaited (awaitsTurn ff [] []) n cr []) (turnSaid E ff is)
       go true [] d e z = fq-heard n cr d (z refl) fm fn c
       go false [] d e z = ff-heard n cr e d fm fn sm a c
       go true (i ∷ is) d e z = let l = few (i ∷ is) d in block-heard i is (sym d) e fm sm true n fn a c (i ∷ is) [] [] cr (fits (i ∷ is) d) (omega arith) refl
@@ -315,7 +315,7 @@ module _ (E F : Shelf) (SE : Sound E) (SF : Sound F) (s t : List ℕ) (p : Phase
     few = subst (λ (l : List ℕ). length l ≤ blockLimit) (sym own) (sound F (SF .table) .few n)
 
     one-each : length ss ≡ length (i ∷ is)
-    one-each = one-sign-each E (m .inbox) (proposalsAt (F .table) (i ∷ is)) ∙ length-map (i ∷ is) (λ (k : ℕ). proposalOf (recordAt (F .table) k))
+    one-each = one-sign-each E (m .inbox) (proposalsFor (F .table) (i ∷ is)) ∙ length-map (i ∷ is) (λ (k : ℕ). proposalOf (recordAt (F .table) k))
 
     good : GoodLine (fsLine ss)
     good = let l = one-each in let f = few in good-line (OurLine.ourAnswer ss) (omega arith, omega arith)
@@ -336,24 +336,24 @@ module _ (E F : Shelf) (SE : Sound E) (SF : Sound F) (s t : List ℕ) (p : Phase
     sent : after .sending ≡ withSign accept (i ∷ is) ss
     sent = ap (λ (l : List ℕ). l ++ accepted ss (i ∷ is)) sn ∙ accepted-is (i ∷ is) ss
 
-    heard-fs : (d : Bool) → WholeLine (begun (awaitsAnswer (i ∷ is)) n d (fsLine ss)) CR (fsLine ss)
-        → step F (begun (awaitsAnswer (i ∷ is)) n d (fsLine ss)) CR ≡ moved (between (aLine (awaitsTurn false [] [])) true (transfersSaid (F .table) (withSign accept (i ∷ is) ss)) after)
+    heard-fs : (d : Bool) → WholeLine (lineAwaited (awaitsAnswer (i ∷ is)) n d (fsLine ss)) CR (fsLine ss)
+        → step F (lineAwaited (awaitsAnswer (i ∷ is)) n d (fsLine ss)) CR ≡ moved (between (aLine (awaitsTurn false [] [])) true (transfersSaid (F .table) (withSign accept (i ∷ is) ss)) after)
     heard-fs d w =
-        happens F [] (begun (awaitsAnswer (i ∷ is)) n d (fsLine ss)) CR tt _ (fsLineComes (fsLine ss) (i ∷ is) w refl ss read after (answer-marks (i ∷ is) ss n))
+        happens F [] (lineAwaited (awaitsAnswer (i ∷ is)) n d (fsLine ss)) CR tt _ (fsLineComes (fsLine ss) (i ∷ is) w refl ss read after (answer-marks (i ∷ is) ss n))
 
     -- nothing was accepted: a turn follows; or our transfers do
-    fs-heard : (js : List ℕ) → withSign accept (i ∷ is) ss ≡ js → (o : Bytes) (cr : Bool) → p ≡ transfersOr E true fs (proposalsAt (F .table) js) m .phase
-        → o ≡ transfersOr E true fs (proposalsAt (F .table) js) m .out → Hears F P R Q (begun (awaitsAnswer (i ∷ is)) n cr []) o
+    fs-heard : (js : List ℕ) → withSign accept (i ∷ is) ss ≡ js → (o : Bytes) (cr : Bool) → p ≡ transfersOr E true fs (proposalsFor (F .table) js) m .phase
+        → o ≡ transfersOr E true fs (proposalsFor (F .table) js) m .out → Hears F P R Q (lineAwaited (awaitsAnswer (i ∷ is)) n cr []) o
     fs-heard [] k o cr e d =
-        subst (Hears F P R Q (begun (awaitsAnswer (i ∷ is)) n cr [])) (sym d)
+        subst (Hears F P R Q (lineAwaited (awaitsAnswer (i ∷ is)) n cr [])) (sym d)
         (hears-line F P R Q (awaitsAnswer (i ∷ is)) n c (fsLine ss) cr (turnSaid E false (proposed E m)) good (fs-head ss)
-        (λ d w. on (begun (awaitsAnswer (i ∷ is)) n d (fsLine ss)) (begun (awaitsTurn false [] []) after true []) CR (turnSaid E false (proposed E m))
+        (λ d w. on (lineAwaited (awaitsAnswer (i ∷ is)) n d (fsLine ss)) (lineAwaited (awaitsTurn false [] []) after true []) CR (turnSaid E false (proposed E m))
         (heard-fs d w ∙ ap (λ (l : List ℕ). moved (between (aLine (awaitsTurn false [] [])) true (transfersSaid (F .table) l) after)) k)
         (turn-heard false after true e fm fn sm (subst (AllHas (F .table) (m .inbox)) (sym (sent ∙ k)) tt) (λ x. absurd (no-both false x refl)) claims)))
     fs-heard (j ∷ js) k o cr e d =
-        subst (Hears F P R Q (begun (awaitsAnswer (i ∷ is)) n cr [])) (append-nil fs ∙ sym d)
+        subst (Hears F P R Q (lineAwaited (awaitsAnswer (i ∷ is)) n cr [])) (append-nil fs ∙ sym d)
         (hears-line F P R Q (awaitsAnswer (i ∷ is)) n c (fsLine ss) cr [] good (fs-head ss)
-        (λ d w. on (begun (awaitsAnswer (i ∷ is)) n d (fsLine ss)) (between (aLine (awaitsTurn false [] [])) true (transfersSaid (F .table) (j ∷ js)) after) CR []
+        (λ d w. on (lineAwaited (awaitsAnswer (i ∷ is)) n d (fsLine ss)) (between (aLine (awaitsTurn false [] [])) true (transfersSaid (F .table) (j ∷ js)) after) CR []
         (heard-fs d w ∙ ap (λ (l : List ℕ). moved (between (aLine (awaitsTurn false [] [])) true (transfersSaid (F .table) l) after)) k)
         (inl
         (record {
@@ -380,12 +380,12 @@ module _ (E F : Shelf) (SE : Sound E) (SF : Sound F) (s t : List ℕ) (p : Phase
       all-snoc (E .table) (n .inbox ++ (x ∷ [])) done j (all-more (E .table) (n .inbox) x done a) (has-last x (n .inbox))
 
   transfer-heard : (js : List ℕ) (j : ℕ) (n : Memory) (cr : Bool) → j < length (E .table) → inMode true (recordAt (E .table) j .form) ≡ true → R → P n
-      → Hears F P R Q (transfersOr F (endsWithCr (kindDue n (proposalOf (recordAt (E .table) j)))) [] (proposalsAt (E .table) js) (withKept n j)) (transfersSaid (E .table) js)
-      → Hears F P R Q (between (awaitsTransfer (proposalOf (recordAt (E .table) j)) (proposalsAt (E .table) js) (scanFrom (kindDue n (proposalOf (recordAt (E .table) j))))) cr [] n)
+      → Hears F P R Q (transfersOr F (endsWithCr (kindDue n (proposalOf (recordAt (E .table) j)))) [] (proposalsFor (E .table) js) (withKept n j)) (transfersSaid (E .table) js)
+      → Hears F P R Q (between (awaitsTransfer (proposalOf (recordAt (E .table) j)) (proposalsFor (E .table) js) (scanFrom (kindDue n (proposalOf (recordAt (E .table) j))))) cr [] n)
       (transfersSaid (E .table) (j ∷ js))
   transfer-heard js j n cr l f e c h =
       let r : Record = recordAt (E .table) j in
-      hears-transfer F P R Q (proposalOf r) (proposalsAt (E .table) js) n c e (record { heading = headingFor (r .form) r; body = r .body }) (transfersSaid (E .table) js) (transferOf r) cr
+      hears-transfer F P R Q (proposalOf r) (proposalsFor (E .table) js) n c e (record { heading = headingFor (r .form) r; body = r .body }) (transfersSaid (E .table) js) (transferOf r) cr
       (transfer-back (r .form) (headingFor (r .form) r) (r .body) (sendable-at (E .table) j (SE .texts) l))
       (transfer-head (r .form) (headingFor (r .form) r) (r .body) f .0)
       (inl h)
@@ -393,7 +393,7 @@ module _ (E F : Shelf) (SE : Sound E) (SF : Sound F) (s t : List ℕ) (p : Phase
   -- TRANSFERS: those at done have been kept
   transfers-heard : (js : List ℕ) (j : ℕ) (done : List ℕ) (n : Memory) (cr : Bool) → Places true (E .table) (j ∷ js) → p ≡ newTurn false
       → m .framed ≡ true → n .framed ≡ true → m .sending ≡ done ++ (j ∷ js) → n .sending ≡ [] → AllHas (E .table) (n .inbox) done → P n
-      → Hears F P R Q (between (awaitsTransfer (proposalOf (recordAt (E .table) j)) (proposalsAt (E .table) js) (scanFrom (kindDue n (proposalOf (recordAt (E .table) j))))) cr [] n)
+      → Hears F P R Q (between (awaitsTransfer (proposalOf (recordAt (E .table) j)) (proposalsFor (E .table) js) (scanFrom (kindDue n (proposalOf (recordAt (E .table) j))))) cr [] n)
       (transfersSaid (E .table) (j ∷ js))
   transfers-heard [] j done n cr h e fm fn sm sn a c =
       transfer-heard [] j n cr (h .0) (h .1) e c
@@ -414,25 +414,25 @@ module _ (E F : Shelf) (SE : Sound E) (SF : Sound F) (s t : List ℕ) (p : Phase
   same-claims n fs c = record { ours = c .ours; theirs = c .theirs }
 
   sid-heard : (n : Memory) (cr : Bool) → p ≡ turnAwaits false (proposed E m) → m .framed ≡ true → m .sending ≡ [] → n .sending ≡ [] → P n
-      → Hears F P R Q (begun (awaitsSid false) n cr []) (signOnSaid m ++ turnSaid E false (proposed E m))
+      → Hears F P R Q (lineAwaited (awaitsSid false) n cr []) (signOnSaid m ++ turnSaid E false (proposed E m))
   sid-heard n cr e fm sm sn c =
       let fs = sid-features in
       hears-line F P R Q (awaitsSid false) n c (fixedText ourSid) cr (turnSaid E false (proposed E m)) (good-line (fixedLine ourSid) tt) refl
-      (λ d w. on (begun (awaitsSid false) n d (fixedText ourSid)) (begun (awaitsTurn false [] []) (metBy (fs .0) n) true []) CR (turnSaid E false (proposed E m))
-      (happens F [] (begun (awaitsSid false) n d (fixedText ourSid)) CR tt _ (sidOfCaller (fixedText ourSid) w refl (fs .0) (fs .1) (fs .2)))
+      (λ d w. on (lineAwaited (awaitsSid false) n d (fixedText ourSid)) (lineAwaited (awaitsTurn false [] []) (metBy (fs .0) n) true []) CR (turnSaid E false (proposed E m))
+      (happens F [] (lineAwaited (awaitsSid false) n d (fixedText ourSid)) CR tt _ (sidOfCaller (fixedText ourSid) w refl (fs .0) (fs .1) (fs .2)))
       (turn-heard false (metBy (fs .0) n) true e fm (fs .3) sm (subst (AllHas (F .table) (m .inbox)) (sym sn) tt) (λ x. absurd (no-both false x refl)) (same-claims n (fs .0) c)))
 
   greeting-heard : (n : Memory) (cr : Bool) → p ≡ aLine (awaitsSid false) → m .sending ≡ [] → n .sending ≡ [] → P n
-      → Hears F P R Q (begun (awaitsSid true) n cr []) (greeting false)
+      → Hears F P R Q (lineAwaited (awaitsSid true) n cr []) (greeting false)
   greeting-heard n cr e sm sn c =
       let fs = sid-features in
       let n′ : Memory = metBy (fs .0) n in
       hears-line F P R Q (awaitsSid true) n c (fixedText ourSid) cr (withCr (fixedText ourPrompt)) (good-line (fixedLine ourSid) tt) refl
-      (λ d w. on (begun (awaitsSid true) n d (fixedText ourSid)) (begun awaitsPrompt n′ true []) CR (withCr (fixedText ourPrompt))
-      (happens F [] (begun (awaitsSid true) n d (fixedText ourSid)) CR tt _ (sidOfCalled (fixedText ourSid) w refl (fs .0) (fs .1) (fs .2)))
+      (λ d w. on (lineAwaited (awaitsSid true) n d (fixedText ourSid)) (lineAwaited awaitsPrompt n′ true []) CR (withCr (fixedText ourPrompt))
+      (happens F [] (lineAwaited (awaitsSid true) n d (fixedText ourSid)) CR tt _ (sidOfCalled (fixedText ourSid) w refl (fs .0) (fs .1) (fs .2)))
       (hears-line F P R Q awaitsPrompt n′ (same-claims n (fs .0) c) (fixedText ourPrompt) true [] (good-line (fixedLine ourPrompt) tt) refl
-      (λ d w. on (begun awaitsPrompt n′ d (fixedText ourPrompt)) (weSpeak F true false (signOnSaid n′) n′) CR []
-      (happens F [] (begun awaitsPrompt n′ d (fixedText ourPrompt)) CR tt _ (prompt (fixedText ourPrompt) w refl prompt-read))
+      (λ d w. on (lineAwaited awaitsPrompt n′ d (fixedText ourPrompt)) (weSpeak F true false (signOnSaid n′) n′) CR []
+      (happens F [] (lineAwaited awaitsPrompt n′ d (fixedText ourPrompt)) CR tt _ (prompt (fixedText ourPrompt) w refl prompt-read))
       (inl (record { fresh = refl; loud = refl; claims = counted-claims n′ (proposed F n′) (same-claims n (fs .0) c); kind = signsOn refl refl e (fs .3) sn sm })))))
 
   -- EVERY HANDOVER IS HEARD

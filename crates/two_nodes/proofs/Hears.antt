@@ -60,26 +60,26 @@ headLf (x ∷ xs) = eqb x LF
 -- ---------------------------------------------------------------- a line
 
 -- A session where this line is awaited and these bytes of it have come.
-abbrev pub begun : Awaited → Memory → Bool → Bytes → Session
-begun a m cr w = lineBegun (aLine a) m cr w
+abbrev pub lineAwaited : Awaited → Memory → Bool → Bytes → Session
+lineAwaited a m cr w = lineBegun (aLine a) m cr w
 
 module _ (E : Shelf) (P : Memory → Type 0) (R : Type 0) (Q : Session → Type 0) (a : Awaited) (m : Memory) (h : P m) where
-  listens : (cr : Bool) (u : Bytes) → Listening P (begun a m cr u)
+  listens : (cr : Bool) (u : Bytes) → Listening P (lineAwaited a m cr u)
   listens cr u = record { live = refl; silent = refl; claims = h }
 
   pub grown : (cr : Bool) (w : Bytes) (b : ℕ) → cr && eqb b LF ≡ false → eqb b CR ≡ false → length w + 1 ≤ lineLimit
-      → step E (begun a m cr w) b ≡ moved (begun a m false (w ++ (b ∷ [])))
+      → step E (lineAwaited a m cr w) b ≡ moved (lineAwaited a m false (w ++ (b ∷ [])))
   grown cr w b d e l =
-      line-step E (begun a m cr w) b a (record { kept = d; silent = refl }) refl
-      ∙ ap (λ (c : Bool). lineMoved E a (begun a m cr w) b (cond c ends (cond (ltb (length w) lineLimit) grows overruns))) e
-      ∙ ap (λ (c : Bool). lineMoved E a (begun a m cr w) b (cond c grows overruns)) (lt-ltb (length w) lineLimit (omega arith))
+      line-step E (lineAwaited a m cr w) b a (record { kept = d; silent = refl }) refl
+      ∙ ap (λ (c : Bool). lineMoved E a (lineAwaited a m cr w) b (cond c ends (cond (ltb (length w) lineLimit) grows overruns))) e
+      ∙ ap (λ (c : Bool). lineMoved E a (lineAwaited a m cr w) b (cond c grows overruns)) (lt-ltb (length w) lineLimit (omega arith))
 
   -- the bytes v of a line, after u
   rest-of-line : (v u : Bytes) (cr : Bool) (later : Bytes) → Lacks CR v → length u + length v ≤ lineLimit → cr && headLf v ≡ false
-      → ((c : Bool) → Heard E P R Q (step E (begun a m c (u ++ v)) CR .session) later) → Hears E P R Q (begun a m cr u) (v ++ CR ∷ later)
+      → ((c : Bool) → Heard E P R Q (step E (lineAwaited a m c (u ++ v)) CR .session) later) → Hears E P R Q (lineAwaited a m cr u) (v ++ CR ∷ later)
   rest-of-line [] u cr later k l z c = (
     listens cr u,
-    subst (λ (w : Bytes). Heard E P R Q (step E (begun a m cr w) CR .session) later) (append-nil u) (c cr),
+    subst (λ (w : Bytes). Heard E P R Q (step E (lineAwaited a m cr w) CR .session) later) (append-nil u) (c cr),
   )
   rest-of-line (x ∷ v) u cr later k l z c =
       let n = length-append u (x ∷ []) in (
@@ -87,16 +87,16 @@ module _ (E : Shelf) (P : Memory → Type 0) (R : Type 0) (Q : Session → Type 
         inl
             (subst (λ (o : Stepped). Hears E P R Q (o .session) (v ++ CR ∷ later)) (sym (grown cr u x z (k .0) (omega arith)))
             (rest-of-line v (u ++ (x ∷ [])) false later (k .1) (omega arith) refl
-            (λ d. subst (λ (w : Bytes). Heard E P R Q (step E (begun a m d w) CR .session) later) (sym (snoc-cons u v x)) (c d)))),
+            (λ d. subst (λ (w : Bytes). Heard E P R Q (step E (lineAwaited a m d w) CR .session) later) (sym (snoc-cons u v x)) (c d)))),
       )
 
   -- A WHOLE LINE
   pub hears-line : (ln : Bytes) (cr : Bool) (later : Bytes) → GoodLine ln → headLf ln ≡ false
-      → ((c : Bool) → WholeLine (begun a m c ln) CR ln → Heard E P R Q (step E (begun a m c ln) CR .session) later)
-      → Hears E P R Q (begun a m cr []) (withCr ln ++ later)
+      → ((c : Bool) → WholeLine (lineAwaited a m c ln) CR ln → Heard E P R Q (step E (lineAwaited a m c ln) CR .session) later)
+      → Hears E P R Q (lineAwaited a m cr []) (withCr ln ++ later)
   hears-line ln cr later g z c =
       let n = g .short in
-      subst (Hears E P R Q (begun a m cr [])) (sym (snoc-cons ln later CR))
+      subst (Hears E P R Q (lineAwaited a m cr [])) (sym (snoc-cons ln later CR))
       (rest-of-line ln [] cr later (g .whole) (omega arith) (and-false cr (headLf ln) z)
       (λ d. c d (record { heeded = record { kept = and-false d false refl; silent = refl }; end = refl; bytes = g .kept; judged = g .heard })))
 

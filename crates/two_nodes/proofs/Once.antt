@@ -11,11 +11,11 @@ use Rattle.grammar.specs.Answers.{Sign, accept, decline, defer}
 use Rattle.mail.specs.Mail.{Message, messageOf, accepted}
 use Rattle.session.specs.Choices.{Shelf, among, messageBids, proposalBids, haveBid, noRoomFor, withAccepted, answersAfter, answersTo, chosen}
 use Rattle.session.specs.Session.{kindDue, Awaited, Phase, aLine, awaitsTransfer, leaving, over, Memory, Session, Outcome, refuses, goesOn, speaking, turnMarks, answering, Stepped, settled, isPlain, keptIn, nextTransfer, step, opened, withOut}
-use Rattle.session.proofs.Ways.{Judged, isWrong, hearsSid, hearsText, hearsPrompt, hearsProposal, hearsFF, hearsFQ, hearsEnd, hearsFs, At, Way, isRefused, dropsLf, growsLine, ignoresLine, hearsLine, readsOn, readsLast, way}
+use Rattle.session.proofs.Ways.{LineOutcome, isWrong, hearsSid, hearsText, hearsPrompt, hearsProposal, hearsFF, hearsFQ, hearsEnd, hearsFs, RuleDecides, Way, isRefused, dropsLf, growsLine, ignoresLine, hearsLine, readsOn, readsLast, way}
 use Rattle.log.specs.Log.{Event, took, gave}
 use Rattle.demand3.specs.Demand.{Call, run}
 use Rattle.two_nodes.specs.Once.{hasBid, EachNew, KeptOnce}
-use Rattle.two_nodes.proofs.Traces.{rest, after, run-possible}
+use Rattle.two_nodes.proofs.Traces.{laterBytes, sessionAfter, run-possible}
 
 -- ---------------------------------------------------------------- lists of BIDs
 
@@ -102,7 +102,7 @@ module _ (E : Shelf) where
   answering-new ss [] m h = speaking-new _ false (chosen (E .table) (m .framed) (m .states) (m .deferred)) m h
   answering-new ss (p ∷ ps) m h = h
 
-  line-new : (m : Memory) (ln : Bytes) {a : Awaited} (o : Outcome) → Judged E m ln a o → EachNew E [] (messageBids (m .inbox) ++ []) → NewOut E o
+  line-new : (m : Memory) (ln : Bytes) {a : Awaited} (o : Outcome) → LineOutcome E m ln a o → EachNew E [] (messageBids (m .inbox) ++ []) → NewOut E o
   line-new m ln o (isWrong n w) h = tt
   line-new m ln o (hearsSid true fs e f) h = h
   line-new m ln o (hearsSid false fs e f) h = h
@@ -144,7 +144,7 @@ module _ (E : Shelf) where
       k))
 
   -- what is new in the phase that the byte finds
-  found : (s : Session) (b : ℕ) (p : Phase) → At s b p → NewIn s → New E p (s .memory)
+  found : (s : Session) (b : ℕ) (p : Phase) → RuleDecides s b p → NewIn s → New E p (s .memory)
   found s b p w h = subst (λ (q : Phase). New E q (s .memory)) (w .awaited) h
 
   way-new : (s : Session) (b : ℕ) → NewIn s → (o : Stepped) → Way E s b o → NewIn (o .session)
@@ -159,10 +159,10 @@ module _ (E : Shelf) where
   step-new : (s : Session) (b : ℕ) → NewIn s → NewIn (step E s b .session)
   step-new s b h = way-new s b h (step E s b) (way E s b)
 
-  after-new : (es : List Event) (s : Session) → NewIn s → NewIn (after E s es)
+  after-new : (es : List Event) (s : Session) → NewIn s → NewIn (sessionAfter E s es)
   after-new [] s h = h
   after-new (took b ∷ es) s h = after-new es (step E s b .session) (step-new s b h)
-  after-new (gave b ∷ es) s h = after-new es (withOut (rest (s .out)) s) h
+  after-new (gave b ∷ es) s h = after-new es (withOut (laterBytes (s .out)) s) h
 
 -- THE THEOREM, for every end, role, list of states and list of calls
 pub kept-once : (E : Shelf) (caller : Bool) (states : List ℕ) (cs : List Call) → KeptOnce E ((run E (opened caller states) cs) .0 .memory .inbox)

@@ -11,15 +11,15 @@ use Rattle.demand2.specs.OurTurn.{mayPropose}
 use Rattle.demand2.proofs.OurTurn.{turn-exact}
 use Rattle.demand3.specs.Demand.{Call, run}
 use Rattle.two_nodes.specs.Link.{Linked}
-use Rattle.two_nodes.specs.Fates.{asBefore, Sound}
-use Rattle.two_nodes.specs.Session.{End, ran, NoneLeft, Left, OneSession}
+use Rattle.two_nodes.specs.Fates.{asBefore, SoundShelf}
+use Rattle.two_nodes.specs.Session.{End, ran, NoneLeft, SessionLeaves, OneSession}
 use Rattle.two_nodes.proofs.Handover.{greets, handover-heard}
-use Rattle.two_nodes.proofs.Traces.{after, run-possible}
+use Rattle.two_nodes.proofs.Traces.{sessionAfter, run-possible}
 use Rattle.two_nodes.proofs.Ends.{fq-came}
-use Rattle.two_nodes.proofs.Together.{Farewell, Final, Talking, together, turn-final}
+use Rattle.two_nodes.proofs.Together.{BothDone, Final, Talking, together, turn-final}
 
 -- at open the called end speaks
-opens : (E F : Shelf) → Sound E → Sound F → (s t : List ℕ) → Talking E F s t (opened false s) (opened true t) []
+opens : (E F : Shelf) → SoundShelf E → SoundShelf F → (s t : List ℕ) → Talking E F s t (opened false s) (opened true t) []
 opens E F SE SF s t =
     record {
       alive = λ z. let y : _≡_ {A = ℕ} 0 1 = cc in omega arith;
@@ -31,22 +31,22 @@ opens E F SE SF s t =
     }
 
 -- the called end with the calls cs, the caller with the calls ds
-met : (E F : Shelf) → Sound E → Sound F → (s t : List ℕ) (cs ds : List Call) → Linked ((run E (opened false s) cs) .1) ((run F (opened true t) ds) .1)
+met : (E F : Shelf) → SoundShelf E → SoundShelf F → (s t : List ℕ) (cs ds : List Call) → Linked ((run E (opened false s) cs) .1) ((run F (opened true t) ds) .1)
     → Final E F s t ((run E (opened false s) cs) .0) ((run F (opened true t) ds) .0)
 met E F SE SF s t cs ds l =
     let a = run-possible E cs (opened false s) in
     let b = run-possible F ds (opened true t) in
     subst (λ (u : Session). Final E F s t u ((run F (opened true t) ds) .0)) (sym (a .1))
-    (subst (λ (u : Session). Final E F s t (after E (opened false s) ((run E (opened false s) cs) .1)) u) (sym (b .1))
+    (subst (λ (u : Session). Final E F s t (sessionAfter E (opened false s) ((run E (opened false s) cs) .1)) u) (sym (b .1))
     (together E F SE SF s t (opened false s) (opened true t) ((run E (opened false s) cs) .1) ((run F (opened true t) ds) .1) (opens E F SE SF s t) (a .0) (b .0) (l .there) (l .back)))
 
 none-left : (E : Shelf) (m : Memory) → m .framed ≡ true → proposed E m ≡ [] → (i : ℕ) → mayPropose (E .table) true (m .states) (m .deferred) i ≡ false
 none-left E m f e i = subst (λ (md : Bool). mayPropose (E .table) md (m .states) (m .deferred) i ≡ false) f (turn-exact E true m .none e i)
 
-leaves : (a b : End) → Final (a .shelf) (b .shelf) (a .states) (b .states) (ran a) (ran b) → Left a b
+leaves : (a b : End) → Final (a .shelf) (b .shelf) (a .states) (b .states) (ran a) (ran b) → SessionLeaves a b
 leaves a b f = record { fates = f .fates; farewell = λ h. let k = fq-came b h in both (f .bye (k .0) (k .1)); farewellBack = λ h. let k = fq-came a h in both (f .byeBack (k .0) (k .1)) }
   where
-    both : Farewell (a .shelf) (b .shelf) (ran a .memory) (ran b .memory) → NoneLeft a × NoneLeft b
+    both : BothDone (a .shelf) (b .shelf) (ran a .memory) (ran b .memory) → NoneLeft a × NoneLeft b
     both k = (none-left (a .shelf) (ran a .memory) (k .framedHere) (k .noneHere), none-left (b .shelf) (ran b .memory) (k .framedThere) (k .noneThere))
 
 -- THE THEOREM

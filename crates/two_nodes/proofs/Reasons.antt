@@ -22,7 +22,7 @@ use Rattle.demand2.specs.Refusals.{inTurn, isAllowed, no5}
 use Rattle.demand2.proofs.Situations.{refuses-with}
 use Rattle.two_nodes.specs.Link.{tookIn, gaveIn, Begins}
 use Rattle.two_nodes.proofs.Hears.{grown}
-use Rattle.two_nodes.proofs.Traces.{rest, after, Possible}
+use Rattle.two_nodes.proofs.Traces.{laterBytes, sessionAfter, Possible}
 
 -- ---------------------------------------------------------------- an end that is over
 
@@ -33,11 +33,11 @@ pub record OnlyGave (Y Z : Session) (fs : List Event) : Type 0 where
   pub phase : Z .phase ≡ over
   pub afterCr : Z .afterCr ≡ Y .afterCr
 
-pub only-gave : (F : Shelf) (fs : List Event) (Y : Session) → Y .phase ≡ over → Possible F Y fs → OnlyGave Y (after F Y fs) fs
+pub only-gave : (F : Shelf) (fs : List Event) (Y : Session) → Y .phase ≡ over → Possible F Y fs → OnlyGave Y (sessionAfter F Y fs) fs
 only-gave F [] Y p h = record { given = record { rest = Y .out; whole = refl }; memory = refl; phase = p; afterCr = refl }
 only-gave F (took b ∷ fs) Y p h = absurd (no-both (ended Y) (ap (λ (q : Phase). endedIn q (Y .out)) p) (h .0))
 only-gave F (gave b ∷ fs) Y p h =
-    let k = only-gave F fs (withOut (rest (Y .out)) Y) p (h .1) in
+    let k = only-gave F fs (withOut (laterBytes (Y .out)) Y) p (h .1) in
     record {
       given = record { rest = k .given .rest; whole = h .0 ∙ ap (λ (o : Bytes). b ∷ o) (k .given .whole) };
       memory = k .memory;
@@ -71,10 +71,10 @@ module _ (E : Shelf) (m : Memory) where
   abbrev pub Spared : Session → Type 0
   Spared t = (t .memory ≡ m) × (t .phase ≡ over → t .afterCr ≡ true → ⊥)
 
-  refused-spared : (s : Session) → s .memory ≡ m → (k : ℕ) (es : List Event) → Possible E (refused s k .session) es → Spared (after E (refused s k .session) es)
+  refused-spared : (s : Session) → s .memory ≡ m → (k : ℕ) (es : List Event) → Possible E (refused s k .session) es → Spared (sessionAfter E (refused s k .session) es)
   refused-spared s e k es h =
       let g = only-gave E es (refused s k .session) refl h in
-      (g .memory ∙ e, λ x y. no-both (after E (refused s k .session) es .afterCr) y (g .afterCr))
+      (g .memory ∙ e, λ x y. no-both (sessionAfter E (refused s k .session) es .afterCr) y (g .afterCr))
 
   -- bytes of ours wait: 11
   early : (cr : Bool) (u o : Bytes) (x b : ℕ) → eqb b LF ≡ false → step E (awaits cr u (x ∷ o)) b ≡ refused (awaits cr u (x ∷ o)) bytesWait
@@ -93,28 +93,28 @@ module _ (E : Shelf) (m : Memory) where
 
   -- WHATEVER IT TAKES OF THE LINE: u has come, w is to come before the CR
   pub hears-why : (es : List Event) (cr : Bool) (u w o : Bytes) → u ++ w ≡ line → length u + length w ≤ lineLimit → Lacks CR w → Lacks LF w
-      → Possible E (awaits cr u o) es → Begins (tookIn es) (withCr w) → Spared (after E (awaits cr u o) es)
+      → Possible E (awaits cr u o) es → Begins (tookIn es) (withCr w) → Spared (sessionAfter E (awaits cr u o) es)
   hears-why [] cr u w o e l c f h b = (refl, λ x y. let z : _≡_ {A = ℕ} 0 1 = cc in omega arith)
-  hears-why (gave x ∷ es) cr u w o e l c f h b = hears-why es cr u w (rest o) e l c f (h .1) b
+  hears-why (gave x ∷ es) cr u w o e l c f h b = hears-why es cr u w (laterBytes o) e l c f (h .1) b
   hears-why (took x ∷ es) cr u [] (y ∷ o) e l c f h b =
       let k = tail-begins x CR (tookIn es) [] b in
       let s = early cr u o y x (ap (λ (n : ℕ). eqb n LF) (k .0)) in
-      subst (λ (t : Stepped). Possible E (t .session) es → Spared (after E (t .session) es)) (sym s) (λ p. refused-spared (awaits cr u (y ∷ o)) refl bytesWait es p) (h .1)
+      subst (λ (t : Stepped). Possible E (t .session) es → Spared (sessionAfter E (t .session) es)) (sym s) (λ p. refused-spared (awaits cr u (y ∷ o)) refl bytesWait es p) (h .1)
   hears-why (took x ∷ es) cr u (z ∷ w) (y ∷ o) e l c f h b =
       let k = tail-begins x z (tookIn es) (withCr w) b in
       let s = early cr u o y x (ap (λ (n : ℕ). eqb n LF) (k .0) ∙ f .0) in
-      subst (λ (t : Stepped). Possible E (t .session) es → Spared (after E (t .session) es)) (sym s) (λ p. refused-spared (awaits cr u (y ∷ o)) refl bytesWait es p) (h .1)
+      subst (λ (t : Stepped). Possible E (t .session) es → Spared (sessionAfter E (t .session) es)) (sym s) (λ p. refused-spared (awaits cr u (y ∷ o)) refl bytesWait es p) (h .1)
   hears-why (took x ∷ es) cr u [] [] e l c f h b =
       let k = tail-begins x CR (tookIn es) [] b in
       let s : step E (awaits cr u []) x ≡ refused (awaits cr line []) lineNotAllowed =
       ap (λ (v : Bytes). step E (awaits cr v []) x) (sym (append-nil u) ∙ e) ∙ ap (step E (awaits cr line [])) (k .0) ∙ told cr in
-      subst (λ (t : Stepped). Possible E (t .session) es → Spared (after E (t .session) es)) (sym s) (λ p. refused-spared (awaits cr line []) refl lineNotAllowed es p) (h .1)
+      subst (λ (t : Stepped). Possible E (t .session) es → Spared (sessionAfter E (t .session) es)) (sym s) (λ p. refused-spared (awaits cr line []) refl lineNotAllowed es p) (h .1)
   hears-why (took x ∷ es) cr u (z ∷ w) [] e l c f h b =
       let k = tail-begins x z (tookIn es) (withCr w) b in
       let n = length-append u (z ∷ []) in
       let s : step E (awaits cr u []) x ≡ moved (awaits false (u ++ (z ∷ [])) []) =
       ap (step E (awaits cr u [])) (k .0) ∙ grown E (λ (a : Memory). Unit {0}) (Unit {0}) (λ (a : Session). Unit {0}) (awaitsTurn false [] []) m tt cr u z (and-false cr (eqb z LF) (f .0)) (c .0) (omega arith) in
-      subst (λ (t : Stepped). Possible E (t .session) es → Spared (after E (t .session) es)) (sym s)
+      subst (λ (t : Stepped). Possible E (t .session) es → Spared (sessionAfter E (t .session) es)) (sym s)
       (λ p. hears-why es false (u ++ (z ∷ [])) w [] (snoc-cons u w z ∙ e) (omega arith) (c .1) (f .1) p (k .1)) (h .1)
 
 abbrev notLf : ℕ → Bool

@@ -19,17 +19,17 @@ use Rattle.log.specs.Log.{Event, took, gave}
 use Rattle.demand2.specs.Events.{proposed}
 use Rattle.demand2.specs.Units.{lineBegun}
 use Rattle.two_nodes.specs.Link.{tookIn, gaveIn, Begins}
-use Rattle.two_nodes.specs.Fates.{Fates, Sound}
+use Rattle.two_nodes.specs.Fates.{Fates, SoundShelf}
 use Rattle.two_nodes.proofs.Hears.{Broken, Listening, Hears, Heard, headLf}
 use Rattle.two_nodes.proofs.Handover.{Handed, Closed, HeardAll, speaks-on, handover-heard}
-use Rattle.two_nodes.proofs.Traces.{rest, after, Possible}
+use Rattle.two_nodes.proofs.Traces.{laterBytes, sessionAfter, Possible}
 use Rattle.two_nodes.proofs.Reasons.{only-gave, tail-begins, begins-twice, Spared, hears-why, line-whole}
 use Rattle.two_nodes.proofs.Calm.{no-lf-first}
 
 -- ---------------------------------------------------------------- what is claimed of two sessions
 
 -- both have nothing left to propose
-pub record Farewell (E F : Shelf) (m n : Memory) : Type 0 where
+pub record BothDone (E F : Shelf) (m n : Memory) : Type 0 where
   pub framedHere : m .framed ≡ true
   pub framedThere : n .framed ≡ true
   pub noneHere : proposed E m ≡ []
@@ -38,13 +38,13 @@ pub record Farewell (E F : Shelf) (m n : Memory) : Type 0 where
 pub record Final (E F : Shelf) (s t : List ℕ) (A B : Session) : Type 0 where
   pub fates : Fates E F s t (A .memory) (B .memory)
   -- FQ came: a session that a refusal ended does not stand after a CR
-  pub bye : B .phase ≡ over → B .afterCr ≡ true → Farewell E F (A .memory) (B .memory)
-  pub byeBack : A .phase ≡ over → A .afterCr ≡ true → Farewell E F (A .memory) (B .memory)
+  pub bye : B .phase ≡ over → B .afterCr ≡ true → BothDone E F (A .memory) (B .memory)
+  pub byeBack : A .phase ≡ over → A .afterCr ≡ true → BothDone E F (A .memory) (B .memory)
 
 turned-fates : (E F : Shelf) (s t : List ℕ) (m n : Memory) → Fates E F s t m n → Fates F E t s n m
 turned-fates E F s t m n f = record { ours = f .theirs; theirs = f .ours }
 
-turned-bye : (E F : Shelf) (m n : Memory) → Farewell E F m n → Farewell F E n m
+turned-bye : (E F : Shelf) (m n : Memory) → BothDone E F m n → BothDone F E n m
 turned-bye E F m n f = record { framedHere = f .framedThere; framedThere = f .framedHere; noneHere = f .noneThere; noneThere = f .noneHere }
 
 turned : (E F : Shelf) (s t : List ℕ) (A B : Session) → Final E F s t A B → Final F E t s B A
@@ -61,13 +61,13 @@ turned E F s t A B f =
 ended-none : (E : Shelf) (X : Session) (es : List Event) → X .phase ≡ over → X .out ≡ [] → Possible E X es → es ≡ []
 ended-none E X [] p o h = refl
 ended-none E X (took b ∷ es) p o h = absurd (no-both (ended X) (ap (λ (q : Phase). endedIn q (X .out)) p) (h .0))
-ended-none E X (gave b ∷ es) p o h = let z : b ∷ rest (X .out) ≡ [] = sym (h .0) ∙ o in let y : _≡_ {A = ℕ} 0 1 = cc in absurd (omega arith)
+ended-none E X (gave b ∷ es) p o h = let z : b ∷ laterBytes (X .out) ≡ [] = sym (h .0) ∙ o in let y : _≡_ {A = ℕ} 0 1 = cc in absurd (omega arith)
 
 -- bytes given alone change nothing but what waits
-gives-alone : (E : Shelf) (es : List Event) (Y : Session) → tookIn es ≡ [] → (after E Y es .memory ≡ Y .memory) × (after E Y es .phase ≡ Y .phase)
+gives-alone : (E : Shelf) (es : List Event) (Y : Session) → tookIn es ≡ [] → (sessionAfter E Y es .memory ≡ Y .memory) × (sessionAfter E Y es .phase ≡ Y .phase)
 gives-alone E [] Y h = (refl, refl)
 gives-alone E (took b ∷ es) Y h = let y : _≡_ {A = ℕ} 0 1 = cc in absurd (omega arith)
-gives-alone E (gave b ∷ es) Y h = gives-alone E es (withOut (rest (Y .out)) Y) h
+gives-alone E (gave b ∷ es) Y h = gives-alone E es (withOut (laterBytes (Y .out)) Y) h
 
 none-begins : (xs : Bytes) → Begins xs [] → xs ≡ []
 none-begins [] b = refl
@@ -75,15 +75,15 @@ none-begins (x ∷ xs) b = let w = b .whole in let y : _≡_ {A = ℕ} 0 1 = cc 
 
 -- the end Y has ended, with nothing in flight to X
 stands : (E F : Shelf) (s t : List ℕ) (X Y : Session) (es fs : List Event) → Final E F s t X Y → (X .phase ≡ over → ⊥) → Y .phase ≡ over → Y .out ≡ [] → Possible F Y fs
-    → Begins (tookIn es) (gaveIn fs) → Final E F s t (after E X es) (after F Y fs)
+    → Begins (tookIn es) (gaveIn fs) → Final E F s t (sessionAfter E X es) (sessionAfter F Y fs)
 stands E F s t X Y es fs f a p o h b =
     let z : fs ≡ [] = ended-none F Y fs p o h in
     let k : tookIn es ≡ [] = none-begins (tookIn es) (subst (λ (l : List Event). Begins (tookIn es) (gaveIn l)) z b) in
     let g = gives-alone E es X k in
-    subst (λ (l : List Event). Final E F s t (after E X es) (after F Y l)) (sym z)
+    subst (λ (l : List Event). Final E F s t (sessionAfter E X es) (sessionAfter F Y l)) (sym z)
     (record {
       fates = subst (λ (m : Memory). Fates E F s t m (Y .memory)) (sym (g .0)) (f .fates);
-      bye = λ x y. subst (λ (m : Memory). Farewell E F m (Y .memory)) (sym (g .0)) (f .bye x y);
+      bye = λ x y. subst (λ (m : Memory). BothDone E F m (Y .memory)) (sym (g .0)) (f .bye x y);
       byeBack = λ x y. absurd (a (sym (g .1) ∙ x));
     })
 
@@ -116,14 +116,14 @@ talking-final E F s t A B f h =
 -- what is shown of at most n events; es: the speaker's, fs: the listener's
 abbrev Along : ℕ → Type 0
 Along n =
-    (E F : Shelf) → Sound E → Sound F → (s t : List ℕ) (A B : Session) (f : Bytes) (es fs : List Event) → length es + length fs ≤ n → Talking E F s t A B f
-    → Possible E A es → Possible F B fs → Begins (tookIn fs) (f ++ gaveIn es) → Begins (tookIn es) (gaveIn fs) → Final E F s t (after E A es) (after F B fs)
+    (E F : Shelf) → SoundShelf E → SoundShelf F → (s t : List ℕ) (A B : Session) (f : Bytes) (es fs : List Event) → length es + length fs ≤ n → Talking E F s t A B f
+    → Possible E A es → Possible F B fs → Begins (tookIn fs) (f ++ gaveIn es) → Begins (tookIn es) (gaveIn fs) → Final E F s t (sessionAfter E A es) (sessionAfter F B fs)
 
 -- the speaker gives a byte
-gives : (E F : Shelf) (s t : List ℕ) (A B : Session) (f : Bytes) (b : ℕ) → Talking E F s t A B f → A .out ≡ b ∷ rest (A .out)
-    → Talking E F s t (withOut (rest (A .out)) A) B (f ++ (b ∷ []))
+gives : (E F : Shelf) (s t : List ℕ) (A B : Session) (f : Bytes) (b : ℕ) → Talking E F s t A B f → A .out ≡ b ∷ laterBytes (A .out)
+    → Talking E F s t (withOut (laterBytes (A .out)) A) B (f ++ (b ∷ []))
 gives E F s t A B f b h k =
-    let e : (f ++ (b ∷ [])) ++ rest (A .out) ≡ f ++ A .out = snoc-cons f (rest (A .out)) b ∙ ap (λ (o : Bytes). f ++ o) (sym k) in
+    let e : (f ++ (b ∷ [])) ++ laterBytes (A .out) ≡ f ++ A .out = snoc-cons f (laterBytes (A .out)) b ∙ ap (λ (o : Bytes). f ++ o) (sym k) in
     record {
       alive = h .alive;
       fresh = h .fresh;
@@ -147,23 +147,23 @@ as-awaiting A e p =
     ap (λ (q : Phase). withPhase q A) e ∙ ap (λ (l : Bytes). withPhase (newTurn false) (withPart l A)) p
 
 -- the listener, now B, has heard a byte; r is what it has still to hear
-module _ (n : ℕ) (ih : Along n) (E F : Shelf) (SE : Sound E) (SF : Sound F) (s t : List ℕ) (A B : Session) (f : Bytes) (es fs : List Event) (l : length es + length fs ≤ n)
+module _ (n : ℕ) (ih : Along n) (E F : Shelf) (SE : SoundShelf E) (SF : SoundShelf F) (s t : List ℕ) (A B : Session) (f : Bytes) (es fs : List Event) (l : length es + length fs ≤ n)
     (alive : A .phase ≡ over → ⊥) (fresh : A .part ≡ []) (pa : Possible E A es) (pb : Possible F B fs) (x : Begins (tookIn fs) (f ++ gaveIn es)) (y : Begins (tookIn es) (gaveIn fs)) where
-  broken : Broken (Fates E F s t (A .memory)) (A .phase ≡ newTurn false) B → Final E F s t (after E A es) (after F B fs)
+  broken : Broken (Fates E F s t (A .memory)) (A .phase ≡ newTurn false) B → Final E F s t (sessionAfter E A es) (sessionAfter F B fs)
   broken k =
       let g = only-gave F fs B (k .phase) pb in
       let b : Begins (tookIn es) (withCr (fixedText protocolError)) = subst (Begins (tookIn es)) (k .why) (begins-twice (tookIn es) (gaveIn fs) (B .out) y (g .given)) in
       let a : A ≡ withPhase (newTurn false) (withPart [] A) = as-awaiting A (k .speaker) fresh in
-      let h : Spared E (A .memory) (after E A es) =
-      subst (λ (u : Session). Possible E u es → Spared E (A .memory) (after E u es)) (sym a)
+      let h : Spared E (A .memory) (sessionAfter E A es) =
+      subst (λ (u : Session). Possible E u es → Spared E (A .memory) (sessionAfter E u es)) (sym a)
       (λ p. hears-why E (A .memory) es (A .afterCr) [] (fixedText protocolError) (A .out) refl (line-whole .0) (line-whole .1) (line-whole .2) p b) pa in
       record {
-        fates = subst (λ (i : Memory). Fates E F s t i (after F B fs .memory)) (sym (h .0)) (subst (Fates E F s t (A .memory)) (sym (g .memory)) (k .claims));
-        bye = λ z w. absurd (no-both (after F B fs .afterCr) w (g .afterCr ∙ k .abrupt));
+        fates = subst (λ (i : Memory). Fates E F s t i (sessionAfter F B fs .memory)) (sym (h .0)) (subst (Fates E F s t (A .memory)) (sym (g .memory)) (k .claims));
+        bye = λ z w. absurd (no-both (sessionAfter F B fs .afterCr) w (g .afterCr ∙ k .abrupt));
         byeBack = λ z w. absurd (h .1 z w);
       }
 
-  closed : Closed E F s t (A .phase) (A .memory) B → Final E F s t (after E A es) (after F B fs)
+  closed : Closed E F s t (A .phase) (A .memory) B → Final E F s t (sessionAfter E A es) (sessionAfter F B fs)
   closed k =
       stands E F s t A B es fs
       (record {
@@ -173,10 +173,10 @@ module _ (n : ℕ) (ih : Along n) (E F : Shelf) (SE : Sound E) (SF : Sound F) (s
       })
       alive (k .phase) (k .silent) pb y
 
-  handed : f ++ A .out ≡ [] → Handed E F s t (A .phase) (A .memory) B → Final E F s t (after E A es) (after F B fs)
+  handed : f ++ A .out ≡ [] → Handed E F s t (A .phase) (A .memory) B → Final E F s t (sessionAfter E A es) (sessionAfter F B fs)
   handed e k =
       let z = nothing f (A .out) e in
-      turned F E t s (after F B fs) (after E A es)
+      turned F E t s (sessionAfter F B fs) (sessionAfter E A es)
       (ih F E SF SE t s B A [] fs es (omega arith)
       (record {
         alive = speaks-on F E (B .phase) (B .memory) (B .out) (A .phase) (A .memory) (k .kind);
@@ -191,7 +191,7 @@ module _ (n : ℕ) (ih : Along n) (E F : Shelf) (SE : Sound E) (SF : Sound F) (s
 
   heard : (r : Bytes) → f ++ A .out ≡ r
       → Heard F (Fates E F s t (A .memory)) (A .phase ≡ newTurn false) (HeardAll E F s t (A .phase) (A .memory)) B r
-      → Final E F s t (after E A es) (after F B fs)
+      → Final E F s t (sessionAfter E A es) (sessionAfter F B fs)
   heard r e (inr k) = broken k
   heard [] e (inl (inl k)) = handed e k
   heard [] e (inl (inr k)) = closed k
@@ -213,7 +213,7 @@ free-refuses E [] A c h = absurd (no-both true refl h)
 free-refuses E (x ∷ o) A c h = refl
 
 -- nothing is in flight either way, and both ends would consume a byte
-stuck : (E F : Shelf) (SF : Sound F) (A B : Session) (c b : ℕ) (es fs : List Event) → null (A .out) ≡ false → B .out ≡ [] → Possible E A (took c ∷ es) → Possible F B (took b ∷ fs)
+stuck : (E F : Shelf) (SF : SoundShelf F) (A B : Session) (c b : ℕ) (es fs : List Event) → null (A .out) ≡ false → B .out ≡ [] → Possible E A (took c ∷ es) → Possible F B (took b ∷ fs)
     → Begins (b ∷ tookIn fs) (gaveIn es) → Begins (c ∷ tookIn es) (gaveIn fs) → ⊥
 stuck E F SF A B c b es fs h q pa pb x y = go (A .afterCr && eqb c LF) refl
   where
@@ -235,18 +235,18 @@ no-begin : (a : ℕ) (xs : Bytes) → Begins (a ∷ xs) [] → ⊥
 no-begin a xs h = let w = none-begins (a ∷ xs) h in let v : _≡_ {A = ℕ} 0 1 = cc in omega arith
 
 -- the listener's next byte is x, of those in flight
-takes : (n : ℕ) → Along n → (E F : Shelf) → Sound E → Sound F → (s t : List ℕ) (A B : Session) (x : ℕ) (f : Bytes) (es : List Event) (b : ℕ) (fs : List Event)
+takes : (n : ℕ) → Along n → (E F : Shelf) → SoundShelf E → SoundShelf F → (s t : List ℕ) (A B : Session) (x : ℕ) (f : Bytes) (es : List Event) (b : ℕ) (fs : List Event)
     → length es + length (took b ∷ fs) ≤ suc n → Talking E F s t A B (x ∷ f) → Possible E A es → Possible F B (took b ∷ fs)
-    → Begins (b ∷ tookIn fs) (x ∷ (f ++ gaveIn es)) → Begins (tookIn es) (gaveIn fs) → Final E F s t (after E A es) (after F B (took b ∷ fs))
+    → Begins (b ∷ tookIn fs) (x ∷ (f ++ gaveIn es)) → Begins (tookIn es) (gaveIn fs) → Final E F s t (sessionAfter E A es) (sessionAfter F B (took b ∷ fs))
 takes n ih E F SE SF s t A B x f es b fs l h pa pb u y =
     let k = tail-begins b x (tookIn fs) (f ++ gaveIn es) u in
     heard n ih E F SE SF s t A (step F B b .session) f es fs (omega arith) (h .alive) (h .fresh) pa (pb .1) (k .1) y (f ++ A .out) refl
     (subst (λ (c : ℕ). Heard F (Fates E F s t (A .memory)) (A .phase ≡ newTurn false) (HeardAll E F s t (A .phase) (A .memory)) (step F B c .session) (f ++ A .out)) (sym (k .0)) (h .hears .1))
 
 -- the listener has nothing to give
-mute : {X : Type 0} (E F : Shelf) (s t : List ℕ) (A B : Session) (f : Bytes) (b : ℕ) → Talking E F s t A B f → B .out ≡ b ∷ rest (B .out) → X
+mute : {X : Type 0} (E F : Shelf) (s t : List ℕ) (A B : Session) (f : Bytes) (b : ℕ) → Talking E F s t A B f → B .out ≡ b ∷ laterBytes (B .out) → X
 mute E F s t A B f b h k =
-    let z : b ∷ rest (B .out) ≡ [] = sym k ∙ listens E F s t A B f h .silent in let v : _≡_ {A = ℕ} 0 1 = cc in absurd (omega arith)
+    let z : b ∷ laterBytes (B .out) ≡ [] = sym k ∙ listens E F s t A B f h .silent in let v : _≡_ {A = ℕ} 0 1 = cc in absurd (omega arith)
 
 along : (n : ℕ) → Along n
 along zero E F SE SF s t A B f [] [] l h pa pb x y = talking-final E F s t A B f h
@@ -257,7 +257,7 @@ along (suc n) E F SE SF s t A B f [] (gave b ∷ fs) l h pa pb x y = mute E F s 
 along (suc n) E F SE SF s t A B [] [] (took b ∷ fs) l h pa pb x y = absurd (no-begin b (tookIn fs) x)
 along (suc n) E F SE SF s t A B (z ∷ f) [] (took b ∷ fs) l h pa pb x y = takes n (along n) E F SE SF s t A B z f [] b fs l h pa pb x y
 along (suc n) E F SE SF s t A B f (gave c ∷ es) fs l h pa pb x y =
-    along n E F SE SF s t (withOut (rest (A .out)) A) B (f ++ (c ∷ [])) es fs (omega arith) (gives E F s t A B f c h (pa .0)) (pa .1) pb
+    along n E F SE SF s t (withOut (laterBytes (A .out)) A) B (f ++ (c ∷ [])) es fs (omega arith) (gives E F s t A B f c h (pa .0)) (pa .1) pb
     (subst (Begins (tookIn fs)) (sym (snoc-cons f (gaveIn es) c)) x) y
 along (suc n) E F SE SF s t A B f (took c ∷ es) [] l h pa pb x y = absurd (no-begin c (tookIn es) y)
 along (suc n) E F SE SF s t A B f (took c ∷ es) (gave b ∷ fs) l h pa pb x y = mute E F s t A B f b h (pb .0)
@@ -266,8 +266,8 @@ along (suc n) E F SE SF s t A B [] (took c ∷ es) (took b ∷ fs) l h pa pb x y
 along (suc n) E F SE SF s t A B (z ∷ f) (took c ∷ es) (took b ∷ fs) l h pa pb x y = takes n (along n) E F SE SF s t A B z f (took c ∷ es) b fs l h pa pb x y
 
 -- A SPEAKER AND A LISTENER: whatever each consumed and gave from there
-pub together : (E F : Shelf) → Sound E → Sound F → (s t : List ℕ) (A B : Session) (es fs : List Event) → Talking E F s t A B [] → Possible E A es → Possible F B fs
-    → Begins (tookIn fs) (gaveIn es) → Begins (tookIn es) (gaveIn fs) → Final E F s t (after E A es) (after F B fs)
+pub together : (E F : Shelf) → SoundShelf E → SoundShelf F → (s t : List ℕ) (A B : Session) (es fs : List Event) → Talking E F s t A B [] → Possible E A es → Possible F B fs
+    → Begins (tookIn fs) (gaveIn es) → Begins (tookIn es) (gaveIn fs) → Final E F s t (sessionAfter E A es) (sessionAfter F B fs)
 together E F SE SF s t A B es fs h pa pb x y = along (length es + length fs) E F SE SF s t A B [] es fs (omega arith) h pa pb x y
 
 pub turn-final : (E F : Shelf) (s t : List ℕ) (A B : Session) → Final E F s t A B → Final F E t s B A

@@ -3,19 +3,19 @@
 use mathlib.Core.Bool.{true, false}
 use mathlib.Core.List.{List, [], _∷_, _++_}
 use Rattle.grammar.specs.Ascii.{text}
-use Rattle.session.specs.Sessions.{hears, takes, Trial, trial, called, calledFramed, greeted, block, waiting}
-use Rattle.session.specs.Reasons.{protocol, checksum}
+use Rattle.session.specs.Sessions.{hears, takes, Trial, trial, called, calledFramed, greeted, threeProposals, waiting}
+use Rattle.session.specs.Reasons.{protocol, checksumErrorLine}
 
 abbrev pub arriving : List Trial
 arriving =
     -- a SID is awaited, at either end: 3
     trial false (takes 99 ∷ hears protocol ∷ takes 99 ∷ []) ((3, 19) ∷ []) (greeted ++ protocol) waiting [] true
-    ∷ trial true (hears checksum ∷ takes 99 ∷ []) ((3, 19) ∷ []) protocol waiting [] true
+    ∷ trial true (hears checksumErrorLine ∷ takes 99 ∷ []) ((3, 19) ∷ []) protocol waiting [] true
     -- the prompt is awaited: a text line like any other
-    ∷ trial true (hears (text "[TST-1-F$]\r") ∷ hears protocol ∷ hears (text ">\r") ∷ takes 99 ∷ []) ((0, 11) ∷ (0, 19) ∷ (0, 2) ∷ []) (text "[NOD-1-B1FH$]\r" ++ block) waiting [] false
+    ∷ trial true (hears (text "[TST-1-F$]\r") ∷ hears protocol ∷ hears (text ">\r") ∷ takes 99 ∷ []) ((0, 11) ∷ (0, 19) ∷ (0, 2) ∷ []) (text "[NOD-1-B1FH$]\r" ++ threeProposals) waiting [] false
     -- a turn or the FS line is awaited: 5
     ∷ called (hears protocol ∷ takes 99 ∷ []) ((5, 19) ∷ []) protocol waiting [] true
-    ∷ called (hears (text "FF\r") ∷ takes 99 ∷ hears checksum ∷ takes 99 ∷ []) ((0, 3) ∷ (5, 19) ∷ []) (block ++ protocol) waiting [] true
+    ∷ called (hears (text "FF\r") ∷ takes 99 ∷ hears checksumErrorLine ∷ takes 99 ∷ []) ((0, 3) ∷ (5, 19) ∷ []) (threeProposals ++ protocol) waiting [] true
     -- a title is awaited: it is one, and the transfer is never whole; a body is under way: body, as far as there is room
     ∷ called (hears (text "FB B D E F Y1 1\rF>\r") ∷ takes 99 ∷ hears protocol ∷ takes 99 ∷ []) ((0, 19) ∷ (0, 19) ∷ []) (text "FS +\r") waiting [] false
     ∷ called (hears (text "FB B D E F Y1 1\rF>\r") ∷ takes 99 ∷ hears (text "U\r") ∷ hears protocol ∷ takes 99 ∷ []) ((0, 19) ∷ (0, 2) ∷ (10, 4) ∷ []) (text "FS +\r" ++ protocol) waiting [] true

@@ -5,6 +5,7 @@ use mathlib.Core.Bool.{Bool, true, false}
 use mathlib.Core.List.{List, [], _∷_, _++_}
 use Prim.Native.Nat.{ℕ, _+_}
 use lib.ListN.{length}
+use Rattle.session.specs.Sessions.{greeted}
 use Rattle.grammar.specs.Bytes.{Bytes}
 use Rattle.grammar.specs.Ascii.{text}
 use Rattle.grammar.specs.Fields.{Form, message, file}
@@ -12,7 +13,7 @@ use Rattle.mail.specs.Mail.{Record, Message}
 use Rattle.demand3.specs.Demand.{Call, receiving, giving}
 use Rattle.two_nodes.specs.Fates.{messageFor}
 use Rattle.two_nodes.specs.Series.{Node, Meeting}
-use Rattle.two_nodes.specs.Examples.{letter, greeted, accepts, proposes, proposesBack, packed}
+use Rattle.two_nodes.specs.Examples.{nodeLetter, accepts, proposes, proposesBack, packed}
 
 -- a record of this form, BID, announced size and body
 abbrev pub mail : Form → Bytes → ℕ → Bytes → Record
@@ -35,8 +36,8 @@ abbrev pub ourSidLine : Bytes
 ourSidLine = text "[NOD-1-B1FH$]\r"
 
 -- a node that has nothing to send
-abbrev pub reader : Node
-reader = nodeWith [] []
+abbrev pub nothingToSend : Node
+nothingToSend = nodeWith [] []
 
 -- ---------------------------------------------------------------- a file with its name, and an empty body
 
@@ -63,8 +64,8 @@ packetsKept = messageFor (mail file (text "F1") 3 (text "abc")) ∷ messageFor (
 
 -- ---------------------------------------------------------------- deferred for want of room; then with room
 
-abbrev pub waits : Node
-waits = nodeWith (letter message (text "X1") (text "hi") ∷ []) (0 ∷ [])
+abbrev pub oneToSend : Node
+oneToSend = nodeWith (nodeLetter message (text "X1") (text "hi") ∷ []) (0 ∷ [])
 
 -- the other end is lent a store of one byte
 abbrev pub short : Meeting
@@ -82,8 +83,8 @@ roomy =
 -- ---------------------------------------------------------------- a body longer than announced
 
 -- two bytes announced, three to send
-abbrev pub longer : Node
-longer = nodeWith (letter message (text "X1") (text "abc") ∷ []) (0 ∷ [])
+abbrev pub longerThanSaid : Node
+longerThanSaid = nodeWith (nodeLetter message (text "X1") (text "abc") ∷ []) (0 ∷ [])
 
 abbrev pub longTransfer : Bytes
 longTransfer = transfer (text "T") (2 ∷ 3 ∷ text "abc") 218
@@ -113,7 +114,7 @@ overrunCut =
 -- ---------------------------------------------------------------- a BID at both ends
 
 abbrev pub twin : Node
-twin = nodeWith (letter message (text "X1") (text "no") ∷ []) (0 ∷ [])
+twin = nodeWith (nodeLetter message (text "X1") (text "no") ∷ []) (0 ∷ [])
 
 -- each declines the other's
 abbrev pub bothHave : Meeting
@@ -124,7 +125,7 @@ bothHave =
 
 -- a BID at both ends, spelt in small letters at the called one
 abbrev pub smallTwin : Node
-smallTwin = nodeWith (letter message (text "x1") (text "no") ∷ []) (0 ∷ [])
+smallTwin = nodeWith (nodeLetter message (text "x1") (text "no") ∷ []) (0 ∷ [])
 
 -- each declines the other's, and sends its own spelling
 abbrev pub bothHaveIt : Meeting
@@ -136,7 +137,7 @@ bothHaveIt =
 -- ---------------------------------------------------------------- mail at the called end alone
 
 abbrev pub holder : Node
-holder = nodeWith (letter message (text "Y1") (text "yo") ∷ []) (0 ∷ [])
+holder = nodeWith (nodeLetter message (text "Y1") (text "yo") ∷ []) (0 ∷ [])
 
 abbrev pub calledSends : Meeting
 calledSends =
@@ -145,7 +146,7 @@ calledSends =
     (giving 99 ∷ receiving (ourSidLine ++ text "FF\r") ∷ giving 99 ∷ receiving accepts ∷ giving 99 ∷ receiving (text "FF\r") ∷ giving 99 ∷ [])
 
 abbrev pub yoKept : List Message
-yoKept = messageFor (letter message (text "Y1") (text "yo")) ∷ []
+yoKept = messageFor (nodeLetter message (text "Y1") (text "yo")) ∷ []
 
 -- ---------------------------------------------------------------- cut twice in a row, and then whole
 
@@ -167,4 +168,4 @@ abbrev pub threeMeetings : List Meeting
 threeMeetings = cutInAnswer ∷ cutInBody ∷ roomy ∷ []
 
 abbrev pub hiKept : List Message
-hiKept = messageFor (letter message (text "X1") (text "hi")) ∷ []
+hiKept = messageFor (nodeLetter message (text "X1") (text "hi")) ∷ []

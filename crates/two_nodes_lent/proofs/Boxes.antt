@@ -33,11 +33,11 @@ use Rattle.main_theorem.proofs.Demand2.{demand-2-lent}
 use Rattle.main_theorem.proofs.Demand3.{ran, states-held}
 use Rattle.two_nodes.proofs.OneSession.{one-session}
 use Rattle.two_nodes.specs.Link.{Linked}
-use Rattle.two_nodes.specs.Fates.{messageFor, Has, allSendable, Sound}
+use Rattle.two_nodes.specs.Fates.{messageFor, Has, allSendable, SoundShelf}
 use Rattle.two_nodes.specs.Once.{hasBid, EachNew, KeptOnce}
 use Rattle.two_nodes.specs.Session.{End}
 use Rattle.two_nodes.specs.Session as on-lists-end
-use Rattle.two_nodes.specs.Series.{Node, Meeting, shelfOf, afterward, series, AllLinked, copies}
+use Rattle.two_nodes.specs.Series.{Node, Meeting, nodeShelf, afterward, series, AllLinked, copies}
 use Rattle.two_nodes.specs.Series as on-lists
 use Rattle.two_nodes.proofs.Series.{two-nodes}
 use Rattle.two_nodes_lent.specs.Boxes.{Box, records, states, statesAfter, kept, events, CarriesOver, Visit, Chain, last, keptHere, keptThere, FqComes, NoneLeft, Parted, AllParted, Settled, Claim}
@@ -74,7 +74,7 @@ record-count x =
     entries-length (recordOf (x .opening .titles .bytes) (x .opening .names .bytes) (x .opening .bodies .bytes)) recordLen (x .opening .table .bytes) 0
     (recordCount (x .opening .table .bytes))
 
-pub sound-of : (x : Box) → Sound (shelfIn (x .opening))
+pub sound-of : (x : Box) → SoundShelf (shelfIn (x .opening))
 sound-of x =
     let f = accepted (x .opening) (x .opens) .fault in
     record {
@@ -257,14 +257,14 @@ none-left x h i =
     ∙ ap (λ (l : List ℕ). mayPropose (records x) true (on-lists-end.ran (endOf x) .memory .states) l i) (r .flags)
     ∙ h i
 
-parted : (v : Visit) → on-lists-end.Left (endOf (v .here)) (endOf (v .there)) → Parted v
+parted : (v : Visit) → on-lists-end.SessionLeaves (endOf (v .here)) (endOf (v .there)) → Parted v
 parted v l =
     record {
       there = λ h. let k = l .farewell (fq-on-lists (v .there) h) in (none-left (v .here) (k .0), none-left (v .there) (k .1));
       here = λ h. let k = l .farewellBack (fq-on-lists (v .here) h) in (none-left (v .here) (k .0), none-left (v .there) (k .1));
     }
 
-met : (v : Visit) → on-lists-end.Left (endOf (v .here)) (endOf (v .there))
+met : (v : Visit) → on-lists-end.SessionLeaves (endOf (v .here)) (endOf (v .there))
 met v =
     one-session (endOf (v .here)) (endOf (v .there))
     (record {
@@ -299,8 +299,8 @@ new-by : (E F : Shelf) → ((seen : List Bytes) (b : Bytes) → hasBid E seen b 
 new-by E F h [] seen k = tt
 new-by E F h (b ∷ bs) seen k = (sym (h seen b) ∙ k .0, new-by E F h bs (seen ++ (b ∷ [])) (k .1))
 
-once-in : (x : Box) (ms : List Message) → KeptOnce (shelfOf (nodeOf x []) 0 0) ms → KeptOnce (shelfIn (x .opening)) ms
-once-in x ms k = new-by (shelfOf (nodeOf x []) 0 0) (shelfIn (x .opening)) (λ seen b. refl) (messageBids ms) [] k
+once-in : (x : Box) (ms : List Message) → KeptOnce (nodeShelf (nodeOf x []) 0 0) ms → KeptOnce (shelfIn (x .opening)) ms
+once-in x ms k = new-by (nodeShelf (nodeOf x []) 0 0) (shelfIn (x .opening)) (λ seen b. refl) (messageBids ms) [] k
 
 pub two-nodes-lent : Claim
 two-nodes-lent v ws h =
@@ -313,9 +313,9 @@ two-nodes-lent v ws h =
       here = settled (v .here) (last v ws .here) (v .there) ((series a b ms) .0) ((series a b ms) .1) (keptThere v ws) (f .statesHere) (f .there) (t .here);
       there = settled (v .there) (last v ws .there) (v .here) ((series a b ms) .1) ((series a b ms) .0) (keptHere v ws) (f .statesThere) (f .here) (t .there);
       each = all-parted ws v;
-      onceHere = once-in (v .here) (keptHere v ws) (subst (KeptOnce (shelfOf a 0 0)) (f .here) (t .onceHere));
-      onceThere = once-in (v .there) (keptThere v ws) (subst (KeptOnce (shelfOf b 0 0)) (f .there) (t .onceThere));
+      onceHere = once-in (v .here) (keptHere v ws) (subst (KeptOnce (nodeShelf a 0 0)) (f .here) (t .onceHere));
+      onceThere = once-in (v .there) (keptThere v ws) (subst (KeptOnce (nodeShelf b 0 0)) (f .there) (t .onceThere));
     }
   where
-    sound-at : (x : Box) → Sound (shelfOf (nodeOf x []) 0 0)
+    sound-at : (x : Box) → SoundShelf (nodeShelf (nodeOf x []) 0 0)
     sound-at x = let s = sound-of x in record { table = s .table; texts = s .texts }

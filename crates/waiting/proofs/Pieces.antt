@@ -17,32 +17,32 @@ use Rattle.session_memory.specs.State.{held, fiveAt}
 use Rattle.session_memory.specs.declared.Five.{Five}
 use Rattle.session_memory.specs.Session.{Session}
 use Rattle.session_memory.proofs.Laws.{array-in, array-length}
-use Rattle.waiting.specs.Waiting.{proposalAt, firstText, blockText, sendingText, thenText, waitingOf}
-use Rattle.waiting.specs.Pieces.{joined, blockPieces, sendingPieces, thenPieces, piecesOf, firstPiece, firstAndLine}
+use Rattle.waiting.specs.Waiting.{tableProposal, firstText, blockText, sendingText, thenText, waitingOf}
+use Rattle.waiting.specs.Pieces.{piecesJoined, blockPieces, sendingPieces, thenPieces, piecesOf, firstPiece, firstAndLine}
 use Rattle.phase.specs.Phase.{blockLimit, pieceNone, pieceFF, pieceFQ, pieceBlock}
 use Rattle.places.specs.Places.{recordLen}
 
 -- ---------------------------------------------------------------- put together
 
-block-joined : (table : Bytes) (is : List ℕ) → joined (blockPieces table is) ≡ blockText table is
-unfolding joined blockPieces blockText turnText
+block-joined : (table : Bytes) (is : List ℕ) → piecesJoined (blockPieces table is) ≡ blockText table is
+unfolding piecesJoined blockPieces blockText turnText
 block-joined table [] = append-nil (withCr (fixedText ourEnd))
 block-joined table (i ∷ is) =
-    ap (λ (r : Bytes). withCr (proposalLine (proposalAt table i)) ++ r) (block-joined table is)
-    ∙ sym (append-assoc (withCr (proposalLine (proposalAt table i))) (proposalLines (map (proposalAt table) is)) (withCr (fixedText ourEnd)))
+    ap (λ (r : Bytes). withCr (proposalLine (tableProposal table i)) ++ r) (block-joined table is)
+    ∙ sym (append-assoc (withCr (proposalLine (tableProposal table i))) (proposalLines (map (tableProposal table) is)) (withCr (fixedText ourEnd)))
 
-sending-joined : (table titles names bodies : Bytes) (is : List ℕ) → joined (sendingPieces table titles names bodies is) ≡ sendingText table titles names bodies is
-unfolding joined sendingPieces sendingText
+sending-joined : (table titles names bodies : Bytes) (is : List ℕ) → piecesJoined (sendingPieces table titles names bodies is) ≡ sendingText table titles names bodies is
+unfolding piecesJoined sendingPieces sendingText
 sending-joined table titles names bodies [] = refl
 sending-joined table titles names bodies (i ∷ is) =
     ap (λ (r : Bytes). transferOf (recordOf titles names bodies (entryAt recordLen table i)) ++ r) (sending-joined table titles names bodies is)
 
-then-joined : (s : Session) (table titles names bodies : Bytes) → joined (thenPieces (s .say .then) s table titles names bodies) ≡ thenText s table titles names bodies
-unfolding thenPieces thenText joined
+then-joined : (s : Session) (table titles names bodies : Bytes) → piecesJoined (thenPieces (s .say .then) s table titles names bodies) ≡ thenText s table titles names bodies
+unfolding thenPieces thenText piecesJoined
 then-joined s table titles names bodies = go (eqb (s .say .then) pieceNone) (eqb (s .say .then) pieceFF) (eqb (s .say .then) pieceFQ) (eqb (s .say .then) pieceBlock) refl refl refl refl
   where
     go : (a b c d : Bool) → eqb (s .say .then) pieceNone ≡ a → eqb (s .say .then) pieceFF ≡ b → eqb (s .say .then) pieceFQ ≡ c → eqb (s .say .then) pieceBlock ≡ d
-        → joined (thenPieces (s .say .then) s table titles names bodies) ≡ thenText s table titles names bodies
+        → piecesJoined (thenPieces (s .say .then) s table titles names bodies) ≡ thenText s table titles names bodies
     go true b c d e f g h = rw e
     go false true c d e f g h = rw (e, f)
     go false false true d e f g h = rw (e, f, g)
@@ -50,20 +50,20 @@ then-joined s table titles names bodies = go (eqb (s .say .then) pieceNone) (eqb
     go false false false false e f g h = simp (e, f, g, h) (sending-joined table titles names bodies (held (s .keep .sending)))
 
 -- THE PIECES ARE WHAT WAITS
-pub pieces-joined : (s : Session) (table titles names bodies : Bytes) → joined (piecesOf s table titles names bodies) ≡ waitingOf s table titles names bodies
-unfolding piecesOf waitingOf joined
+pub pieces-joined : (s : Session) (table titles names bodies : Bytes) → piecesJoined (piecesOf s table titles names bodies) ≡ waitingOf s table titles names bodies
+unfolding piecesOf waitingOf piecesJoined
 pieces-joined s table titles names bodies =
     ap (λ (r : Bytes). firstText s ++ r) (then-joined s table titles names bodies)
 
 -- ---------------------------------------------------------------- from one piece on
 
 module _ (ps : List Bytes) (k : ℕ) where
-  pub pieces-more : k < length ps → getD ps k [] ++ joined (drop (k + 1) ps) ≡ joined (drop k ps)
-  unfolding joined
+  pub pieces-more : k < length ps → getD ps k [] ++ piecesJoined (drop (k + 1) ps) ≡ piecesJoined (drop k ps)
+  unfolding piecesJoined
   pieces-more h = rw (drop-cons ps k [] h, add-one k)
 
-  pub pieces-end : length ps ≤ k → joined (drop k ps) ≡ []
-  unfolding joined
+  pub pieces-end : length ps ≤ k → piecesJoined (drop k ps) ≡ []
+  unfolding piecesJoined
   pieces-end h = rw (drop-of-length-le ps {i = k} h)
 
 -- ---------------------------------------------------------------- up to five numbers
@@ -154,7 +154,7 @@ module _ (s : Session) (table titles names bodies : Bytes) where
 
 -- our block: the proposals, then `F>`
 module _ (table : Bytes) where
-  block-item : (is : List ℕ) (j : ℕ) → j < length is → getD (blockPieces table is) j [] ≡ withCr (proposalLine (proposalAt table (getD is j 0)))
+  block-item : (is : List ℕ) (j : ℕ) → j < length is → getD (blockPieces table is) j [] ≡ withCr (proposalLine (tableProposal table (getD is j 0)))
   unfolding blockPieces
   block-item [] j h = absurd (omega arith)
   block-item (i ∷ is) zero h = refl
@@ -171,10 +171,10 @@ module _ (table : Bytes) where
     pub block-end : n < k → k - 1 < length (blockPieces table (held ours)) → getD (blockPieces table (held ours)) (k - 1) [] ≡ withCr (fixedText ourEnd)
     block-end g b = block-last (held ours) (k - 1) (omega (arith, block-count table (held ours), held-length ours n q h))
 
-    pub block-proposal : k ≤ n → getD (blockPieces table (held ours)) (k - 1) [] ≡ withCr (proposalLine (proposalAt table (getD (ours .items) (k - 1) 0)))
+    pub block-proposal : k ≤ n → getD (blockPieces table (held ours)) (k - 1) [] ≡ withCr (proposalLine (tableProposal table (getD (ours .items) (k - 1) 0)))
     block-proposal g =
         block-item (held ours) (k - 1) (omega (arith, held-length ours n q h))
-        ∙ ap (λ (i : ℕ). withCr (proposalLine (proposalAt table i))) (getD-take (ours .count) (ours .items) (k - 1) 0 (omega arith))
+        ∙ ap (λ (i : ℕ). withCr (proposalLine (tableProposal table i))) (getD-take (ours .count) (ours .items) (k - 1) 0 (omega arith))
 
 -- the transfers
 module _ (table titles names bodies : Bytes) where

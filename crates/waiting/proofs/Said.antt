@@ -15,7 +15,7 @@ use Rattle.session_memory.specs.State.{held, fiveAt, loadOf, loadKeep}
 use Rattle.session_memory.specs.Session.{Session}
 use Rattle.session_memory.proofs.Laws.{array-length}
 use Rattle.phase.specs.Phase.{pieceNone, pieceSidAndPrompt, pieceSid, pieceProtocolError, pieceChecksumError, blockLimit, pieceFF, pieceFQ, pieceBlock}
-use Rattle.waiting.specs.Waiting.{proposalAt, firstBy, firstText}
+use Rattle.waiting.specs.Waiting.{tableProposal, firstBy, firstText}
 use Rattle.waiting.specs.Pieces.{blockPieces, piecesOf}
 use Rattle.waiting.proofs.Pieces.{item-read, count-none, block-proposal, piece-first, bound-sent, piece-sent}
 
@@ -58,7 +58,7 @@ pub block-text : (sm table : Bytes) (k : ℕ) → oursAt + (1 + blockLimit) ≤ 
     → withCr (proposalLine (proposalOf (recordOf [] [] [] r))) ≡ getD (blockPieces table (held (fiveAt sm oursAt))) (k - 1) []
 block-text sm table k b p {n} q h e =
     ap (λ (c : Bytes). withCr (proposalLine (proposalOf (recordOf [] [] [] c)))) e
-    ∙ ap (λ (i : ℕ). withCr (proposalLine (proposalAt table i))) (item-read sm oursAt b k p (omega arith))
+    ∙ ap (λ (i : ℕ). withCr (proposalLine (tableProposal table i))) (item-read sm oursAt b k p (omega arith))
     ∙ sym (block-proposal table (fiveAt sm oursAt) (array-length blockLimit sm (oursAt + 1)) k p q h)
 
 module _ (s : Session) (table titles names bodies : Bytes) (k : ℕ) where

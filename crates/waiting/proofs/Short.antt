@@ -7,7 +7,7 @@ use native.Mathlib.Omega.{arith}
 use lib.Dec.{eqb}
 use lib.ListN.{length, drop, length-append, length-take, length-drop}
 use Rattle.grammar.specs.Bytes.{Bytes, byteValues}
-use Rattle.grammar.specs.Fields.{Form, plain, message, file, bodyLimit, decimalDigits}
+use Rattle.grammar.specs.Fields.{Form, plain, message, file, bodyMax, decimalDigits}
 use Rattle.grammar.specs.Turns.{proposalLine, withCr}
 use Rattle.grammar.specs.Transfers.{TransferKind, plainKind, framedKind, kindOf, writeTransfer, blocksOut, dataMax}
 use Rattle.grammar.proofs.Basics.{by-cond}
@@ -23,7 +23,7 @@ use Rattle.session_memory.specs.declared.Five.{Five}
 use Rattle.session_memory.specs.Session.{Session}
 use Rattle.places.specs.Places.{callMax, atMax, bidMax, recordLen, recordFrom, recordAtField, recordTo, recordBid}
 use Rattle.phase.specs.Phase.{pieceNone, pieceSidAndPrompt, pieceSid, pieceProtocolError, pieceChecksumError, pieceFF, pieceFQ, pieceBlock, blockLimit}
-use Rattle.waiting.specs.Waiting.{proposalAt, firstText, blockText, sendingText, thenText, waitingOf}
+use Rattle.waiting.specs.Waiting.{tableProposal, firstText, blockText, sendingText, thenText, waitingOf}
 
 -- ---------------------------------------------------------------- parts, fields and lists of five
 
@@ -51,17 +51,17 @@ held-short f h = simp length-take (omega arith)
 
 -- ---------------------------------------------------------------- a line, a transfer
 
-line-short : (table : Bytes) (i : ℕ) → length (withCr (proposalLine (proposalAt table i))) ≤ lineBound
+line-short : (table : Bytes) (i : ℕ) → length (withCr (proposalLine (tableProposal table i))) ≤ lineBound
 unfolding proposalLine
 line-short table i =
     let c = entryAt recordLen table i in
-    let d = num-field (decimalDigits - 1) (proposalAt table i .size) .most in
+    let d = num-field (decimalDigits - 1) (tableProposal table i .size) .most in
     simp length-append (omega (arith, field-short callMax recordFrom c, field-short atMax recordAtField c, field-short callMax recordTo c, field-short bidMax recordBid c))
 
-lines-short : (table : Bytes) (is : List ℕ) → length (proposalLines (map (proposalAt table) is)) ≤ lineBound * length is
+lines-short : (table : Bytes) (is : List ℕ) → length (proposalLines (map (tableProposal table) is)) ≤ lineBound * length is
 lines-short table [] = omega arith
 lines-short table (i ∷ is) =
-    omega (arith, length-append (withCr (proposalLine (proposalAt table i))) (proposalLines (map (proposalAt table) is)), lines-short table is, line-short table i)
+    omega (arith, length-append (withCr (proposalLine (tableProposal table i))) (proposalLines (map (tableProposal table) is)), lines-short table is, line-short table i)
 
 blocks-short : (f : ℕ) (x : Bytes) → length (blocksOut f x) ≤ (blockHead + 1) * length x
 blocks-short zero x = omega arith
@@ -69,7 +69,7 @@ blocks-short (suc f) [] = omega arith
 blocks-short (suc f) (b ∷ x) =
     simp length-append (omega (arith, blocks-short f (drop dataMax (b ∷ x)), length-drop dataMax (b ∷ x), length-take dataMax (b ∷ x)))
 
-pub transfer-short : (kind : TransferKind) (h x : Bytes) → length h ≤ byteValues - 1 → length x ≤ bodyLimit → length (writeTransfer kind h x) ≤ transferBound
+pub transfer-short : (kind : TransferKind) (h x : Bytes) → length h ≤ byteValues - 1 → length x ≤ bodyMax → length (writeTransfer kind h x) ≤ transferBound
 unfolding writeTransfer
 transfer-short plainKind h x k l = simp length-append (omega arith)
 transfer-short framedKind h x k l = simp length-append (omega (arith, blocks-short (length x) x))
@@ -88,7 +88,7 @@ record-short table titles names bodies o i =
     let b : (j : ℕ) → byteAt c j < byteValues = part-octets table o (i * recordLen) recordLen in
     let t : length (r .title) ≤ byteValues - 1 = omega (arith, part-short titles (titleExtent c .start) (titleExtent c .len), title-fits c b .len) in
     let n : length (r .name) ≤ byteValues - 1 = omega (arith, part-short names (nameExtent c .start) (nameExtent c .len), name-fits c b .len) in
-    let x : length (r .body) ≤ bodyLimit = omega (arith, part-short bodies (bodyExtent c .start) (bodyExtent c .len), body-fits c b .len) in
+    let x : length (r .body) ≤ bodyMax = omega (arith, part-short bodies (bodyExtent c .start) (bodyExtent c .len), body-fits c b .len) in
     transfer-short (kindOf (r .form)) (headingFor (r .form) r) (r .body) (heading-short (r .form) r t n) x
 
 -- ---------------------------------------------------------------- all that waits

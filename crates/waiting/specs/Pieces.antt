@@ -11,17 +11,17 @@ use Rattle.layout.specs.Layout.{entryAt, recordOf}
 use Rattle.session_memory.specs.State.{held}
 use Rattle.session_memory.specs.Session.{Session}
 use Rattle.phase.specs.Phase.{pieceNone, pieceFF, pieceFQ, pieceBlock}
-use Rattle.waiting.specs.Waiting.{proposalAt, firstText}
+use Rattle.waiting.specs.Waiting.{tableProposal, firstText}
 use Rattle.places.specs.Places.{recordLen}
 
-unfoldable pub joined : List Bytes → Bytes
-joined [] = []
-joined (p ∷ ps) = p ++ joined ps
+unfoldable pub piecesJoined : List Bytes → Bytes
+piecesJoined [] = []
+piecesJoined (p ∷ ps) = p ++ piecesJoined ps
 
 -- the proposals of the records at these places, and `F>`
 unfoldable pub blockPieces : Bytes → List ℕ → List Bytes
 blockPieces table [] = withCr (fixedText ourEnd) ∷ []
-blockPieces table (i ∷ is) = withCr (proposalLine (proposalAt table i)) ∷ blockPieces table is
+blockPieces table (i ∷ is) = withCr (proposalLine (tableProposal table i)) ∷ blockPieces table is
 
 -- the transfers of the records at these places
 unfoldable pub sendingPieces : Bytes → Bytes → Bytes → Bytes → List ℕ → List Bytes

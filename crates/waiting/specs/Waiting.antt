@@ -16,8 +16,8 @@ use Rattle.session_memory.specs.State.{held}
 use Rattle.session_memory.specs.Session.{Session}
 
 -- The proposal of the record at a place of the table.
-abbrev pub proposalAt : Bytes → ℕ → Proposal
-proposalAt table i = mail.proposalOf (recordOf [] [] [] (entryAt recordLen table i))
+abbrev pub tableProposal : Bytes → ℕ → Proposal
+tableProposal table i = mail.proposalOf (recordOf [] [] [] (entryAt recordLen table i))
 
 -- What is said first by this number; any without a name of its own: the FS line of our signs
 abbrev pub firstBy : ℕ → Session → Bytes
@@ -34,7 +34,7 @@ firstText s = firstBy (s .say .first) s
 
 -- "one to five proposals and `F>`"
 unfoldable pub blockText : Bytes → List ℕ → Bytes
-blockText table is = turnText (map (proposalAt table) is)
+blockText table is = turnText (map (tableProposal table) is)
 
 -- The transfers of the records at these places, in order.
 unfoldable pub sendingText : Bytes → Bytes → Bytes → Bytes → List ℕ → Bytes

@@ -11,14 +11,14 @@ use Rattle.mail.specs.Mail.{transferOf}
 use Rattle.layout.specs.Layout.{byteAt, entryAt, recordOf}
 use Rattle.places.specs.Places.{recordLen, recordForm, signsAt}
 use Rattle.phase.specs.Phase.{blockLimit}
-use Rattle.buffer.specs.Put.{Puts, putBytes, putCursor}
+use Rattle.buffer.specs.Put.{Puts, putBytes, putCursor, cursor}
 use Rattle.buffer.specs.declared.Cursor.{Cursor}
-use Rattle.buffer.proofs.Laws.{cursor, after-cursor, after-bytes, puts-as, puts-full}
+use Rattle.buffer.proofs.Laws.{after-cursor, after-bytes, puts-as, puts-full}
 use Rattle.record_text.specs.Texts.{headingPart, bodyIn}
 use Rattle.record_text.proofs.Laws.{of-message, of-file, of-plain, of-none}
 use Rattle.text_length.proofs.Laws.{entry-none}
 use Rattle.session_memory.specs.State.{held, fiveAt}
-use Rattle.waiting.specs.Pieces.{joined}
+use Rattle.waiting.specs.Pieces.{piecesJoined}
 use Rattle.waiting.proofs.Pieces.{pieces-more, pieces-end, held-read}
 
 -- the signs in use, where they stand in session memory
@@ -51,24 +51,24 @@ module _ (table titles names bodies : Bytes) (i : ℕ) {r : Bytes} (e : r ≡ en
 -- ---------------------------------------------------------------- one piece after the other
 
 -- the pieces from k on, put into b at d, come to those from i on, put into b₀ at c
-abbrev pub Left : List Bytes → ℕ → Bytes → Cursor → Bytes → Cursor → ℕ → Type 0
-Left ps i b₀ c b d k =
-    (putCursor (length b) d (joined (drop k ps)) ≡ putCursor (length b₀) c (joined (drop i ps))) × (putBytes b d (joined (drop k ps)) ≡ putBytes b₀ c (joined (drop i ps)))
+abbrev pub PiecesLeft : List Bytes → ℕ → Bytes → Cursor → Bytes → Cursor → ℕ → Type 0
+PiecesLeft ps i b₀ c b d k =
+    (putCursor (length b) d (piecesJoined (drop k ps)) ≡ putCursor (length b₀) c (piecesJoined (drop i ps))) × (putBytes b d (piecesJoined (drop k ps)) ≡ putBytes b₀ c (piecesJoined (drop i ps)))
 
-module _ (ps : List Bytes) (i : ℕ) (b₀ : Bytes) (c : Cursor) (b : Bytes) (d : Cursor) (k : ℕ) (a : Left ps i b₀ c b d k) where
+module _ (ps : List Bytes) (i : ℕ) (b₀ : Bytes) (c : Cursor) (b : Bytes) (d : Cursor) (k : ℕ) (a : PiecesLeft ps i b₀ c b d k) where
   -- a turn of the loop
-  pub left-more : {r : Cursor} {e : Bytes} → k < length ps → Puts b d (getD ps k []) r e → Left ps i b₀ c e r (k + 1)
+  pub left-more : {r : Cursor} {e : Bytes} → k < length ps → Puts b d (getD ps k []) r e → PiecesLeft ps i b₀ c e r (k + 1)
   left-more h p =
       let y = getD ps k [] in
-      let z = joined (drop (k + 1) ps) in (
+      let z = piecesJoined (drop (k + 1) ps) in (
         after-cursor b d y z p ∙ ap (λ (x : Bytes). putCursor (length b) d x) (pieces-more ps k h) ∙ a .0,
         after-bytes b d y z p ∙ ap (λ (x : Bytes). putBytes b d x) (pieces-more ps k h) ∙ a .1,
       )
 
   -- no room is left
-  pub left-full : length b ≤ d .at → Puts b₀ c (joined (drop i ps)) (cursor (d .at) 0) b
-  left-full h = let p = puts-full b d (joined (drop k ps)) h in (p .0 ∙ a .0, p .1 ∙ a .1)
+  pub left-full : length b ≤ d .at → Puts b₀ c (piecesJoined (drop i ps)) (cursor (d .at) 0) b
+  left-full h = let p = puts-full b d (piecesJoined (drop k ps)) h in (p .0 ∙ a .0, p .1 ∙ a .1)
 
   -- no piece is left
-  pub left-end : {r : Cursor} {e : Bytes} → length ps ≤ k → Puts b d [] r e → Puts b₀ c (joined (drop i ps)) r e
+  pub left-end : {r : Cursor} {e : Bytes} → length ps ≤ k → Puts b d [] r e → Puts b₀ c (piecesJoined (drop i ps)) r e
   left-end h p = let q = puts-as b d (sym (pieces-end ps k h)) p in (q .0 ∙ a .0, q .1 ∙ a .1)

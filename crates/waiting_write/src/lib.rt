@@ -4,7 +4,7 @@ use layout::byte_at;
 use layout::entry;
 use layout::field;
 use number_read::number4;
-use our_line::Fixed;
+use our_line::FixedKind;
 use waiting::in_use;
 ghost use mathlib.Core.Path.{_≡_};
 ghost use mathlib.Core.List.{[]};
@@ -17,7 +17,7 @@ ghost use Rattle.places.specs.Places.{recordLen, sessionLen};
 ghost use Rattle.buffer.specs.Put.{Puts};
 ghost use Rattle.session_memory.specs.State.{held, loadOf};
 ghost use Rattle.waiting.specs.Waiting.{firstText};
-ghost use Rattle.waiting.specs.Pieces.{joined, blockPieces, piecesOf};
+ghost use Rattle.waiting.specs.Pieces.{piecesJoined, blockPieces, piecesOf};
 
 // Nothing: the cursor stands as after an empty text.
 fn write_nothing(buf: &mut [u8], c: Cursor) -> Cursor
@@ -65,10 +65,10 @@ fn write_transfer<'a>(
     let heading = record_text::heading(r, titles, names);
     let body = record_text::body(r, bodies);
     let form = r[places::RECORD_FORM as usize];
-    if form == record_text::MESSAGE {
+    if form == record_text::FORM_MESSAGE {
         return transfer_write::write_framed(buf, c, heading, body);
     }
-    if form == record_text::FILE {
+    if form == record_text::FORM_FILE {
         return transfer_write::write_framed(buf, c, heading, body);
     }
     transfer_write::write_plain(buf, c, heading, body)
@@ -84,17 +84,17 @@ fn write_first(buf: &mut [u8], c: Cursor, sm: &[u8]) -> Cursor
         return write_nothing(buf, c);
     }
     if first == phase::PIECE_SID_AND_PROMPT {
-        let d = our_line::write_fixed(Fixed::Sid, buf, c);
-        return our_line::write_fixed(Fixed::Prompt, buf, d);
+        let d = our_line::write_fixed(FixedKind::Sid, buf, c);
+        return our_line::write_fixed(FixedKind::Prompt, buf, d);
     }
     if first == phase::PIECE_SID {
-        return our_line::write_fixed(Fixed::Sid, buf, c);
+        return our_line::write_fixed(FixedKind::Sid, buf, c);
     }
     if first == phase::PIECE_PROTOCOL_ERROR {
-        return our_line::write_fixed(Fixed::ProtocolError, buf, c);
+        return our_line::write_fixed(FixedKind::ProtocolError, buf, c);
     }
     if first == phase::PIECE_CHECKSUM_ERROR {
-        return our_line::write_fixed(Fixed::ChecksumError, buf, c);
+        return our_line::write_fixed(FixedKind::ChecksumError, buf, c);
     }
     let start = places::SIGNS + 1;
     let end = start + in_use(sm[places::SIGNS]) as usize;
@@ -107,7 +107,7 @@ fn write_block(buf: &mut [u8], c: Cursor, k: u8, sm: &[u8], table: &[u8]) -> Cur
     ensures { λ d. ⌜ Puts (now (buf .entry)) c (getD (blockPieces (now (table .entry)) (held (loadOf (now (sm .entry)) .now .ours))) (k - 1) []) d (now (buf .exit)) ⌝ }
 {
     if in_use(sm[places::OURS]) < k {
-        return our_line::write_fixed(Fixed::End, buf, c);
+        return our_line::write_fixed(FixedKind::End, buf, c);
     }
     let i = sm[places::OURS + k as usize];
     write_proposal(buf, c, entry(places::RECORD, table, i as u16))
@@ -132,10 +132,10 @@ fn write_piece<'a>(
     }
     let then = sm[places::THEN];
     if then == phase::PIECE_FF {
-        return our_line::write_fixed(Fixed::FF, buf, c);
+        return our_line::write_fixed(FixedKind::FF, buf, c);
     }
     if then == phase::PIECE_FQ {
-        return our_line::write_fixed(Fixed::FQ, buf, c);
+        return our_line::write_fixed(FixedKind::FQ, buf, c);
     }
     if then == phase::PIECE_BLOCK {
         return write_block(buf, c, k, sm, table);
@@ -156,7 +156,7 @@ pub fn write_from<'a>(
     bodies: &[u8],
 ) -> Cursor
     requires { ⌜ length (now sm) ≡ sessionLen ⌝ }
-    ensures { λ d. ⌜ Puts (now (buf .entry)) c (joined (drop from (piecesOf (loadOf (now (sm .entry))) (now (table .entry)) (now (titles .entry)) (now (names .entry)) (now (bodies .entry))))) d (now (buf .exit)) ⌝ }
+    ensures { λ d. ⌜ Puts (now (buf .entry)) c (piecesJoined (drop from (piecesOf (loadOf (now (sm .entry))) (now (table .entry)) (now (titles .entry)) (now (names .entry)) (now (bodies .entry))))) d (now (buf .exit)) ⌝ }
 {
     let n = waiting::piece_count(sm);
     let mut d = c;

@@ -7,13 +7,13 @@ ghost use mathlib.Core.Path.{_≡_};
 ghost use Prim.Native.Nat.{_+_, _<_};
 ghost use Rattle.grammar.specs.Bytes.{wordValues};
 ghost use Rattle.pages.specs.Pages.{higher, surveyOf};
-ghost use Rattle.white_pages.specs.Meaning.{NextIs, countedOf, toldOf, surveyIs};
+ghost use Rattle.white_pages.specs.Meaning.{NextIs, pageCounted, toldOf, surveyIs};
 
 // A mail with a version above this one is left unread.
 const OUR_VERSION: u32 = 10;
 
 // A line by its places in the mail, and the place from which the next one is read. The places of its fields count from its start.
-pub struct Line {
+pub struct PageLine {
     pub start: usize,
     pub end: usize,
     pub next: usize,
@@ -22,12 +22,12 @@ pub struct Line {
 
 // The line at a place, or that the mail has no more.
 pub enum NextPage {
-    Is(Line),
+    Is(PageLine),
     End,
 }
 
 // What was counted so far.
-struct Tally {
+struct PageTally {
     records: usize,
     dropped: usize,
     version: u32,
@@ -51,7 +51,7 @@ pub fn next_page(mail: &[u8], at: usize) -> NextPage
             let start = t.start;
             let end = t.end;
             let page = read_page(&mail[start..end]);
-            NextPage::Is(Line {
+            NextPage::Is(PageLine {
                 start: start,
                 end: end,
                 next: t.next,
@@ -72,23 +72,23 @@ fn higher_of(a: u32, b: u32) -> u32
 }
 
 // One line more.
-fn count(t: Tally, page: Page) -> Tally
+fn count(t: PageTally, page: Page) -> PageTally
     requires { ⌜ (t .records + 1 < wordValues) × (t .dropped + 1 < wordValues) ⌝ }
-    ensures { λ r. ⌜ r ≡ countedOf t page ⌝ }
+    ensures { λ r. ⌜ r ≡ pageCounted t page ⌝ }
 {
     match page {
-        Page::Version(n) => Tally {
+        Page::Version(n) => PageTally {
             records: t.records + 1,
             dropped: t.dropped,
             version: higher_of(t.version, n),
         },
-        Page::Member(_) => Tally {
+        Page::Member(_) => PageTally {
             records: t.records + 1,
             dropped: t.dropped,
             version: t.version,
         },
         Page::Skipped => t,
-        Page::Dropped(_) => Tally {
+        Page::Dropped(_) => PageTally {
             records: t.records,
             dropped: t.dropped + 1,
             version: t.version,
@@ -97,7 +97,7 @@ fn count(t: Tally, page: Page) -> Tally
 }
 
 // What all lines together tell.
-fn told(t: Tally) -> Surveyed
+fn told(t: PageTally) -> Surveyed
     ensures { λ r. ⌜ r ≡ toldOf t ⌝ }
 {
     if OUR_VERSION < t.version {
@@ -120,7 +120,7 @@ fn told(t: Tally) -> Surveyed
 pub fn survey(mail: &[u8]) -> Surveyed
     ensures { λ r. ⌜ surveyIs r ≡ surveyOf (now (mail .entry)) ⌝ }
 {
-    let mut tally = Tally {
+    let mut tally = PageTally {
         records: 0,
         dropped: 0,
         version: 0,

@@ -1,15 +1,10 @@
 -- The questions and answers of the tests as numbers, for callers from C and Rust.
-use mathlib.Core.Bool.{Bool, true, false, cond}
+use mathlib.Core.Bool.{Bool, cond}
 use Prim.Native.Nat.{ℕ}
 use lib.Dec.{eqb}
 use Rattle.grammar.specs.Bytes.{Bytes}
 use Rattle.grammar.specs.Fields.{plain, message, isCall, isAt, isBid, isHeading, isSize, isBody}
 use Rattle.byte.specs.declared.Class.{Class}
-
--- A test's answer: 1 where it holds.
-abbrev pub flag : Bool → ℕ
-flag true = 1
-flag false = 0
 
 -- A class of bytes by its number: from and to, BID, title or name, digit, SID author, any other: SID data.
 abbrev pub callClass : ℕ

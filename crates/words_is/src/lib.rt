@@ -3,10 +3,11 @@
 use byte::Class;
 use size::Size;
 ghost use mathlib.Core.Path.{_≡_};
+ghost use Rattle.grammar.specs.Bytes.{flag};
 ghost use Rattle.grammar.specs.Fields.{isSize, sameBid};
 ghost use Rattle.grammar.specs.Lines.{isComment, isPrompt};
 ghost use Rattle.byte.specs.Classes.{classOf};
-ghost use Rattle.words_is.specs.Numbers.{flag, classBy, fieldIs};
+ghost use Rattle.words_is.specs.Numbers.{classBy, fieldIs};
 
 // A test's answer as a number: 1 where it holds.
 fn flag_of(b: bool) -> u8
@@ -43,9 +44,9 @@ const SIZE_RULE: u8 = 4;
 const BODY_RULE: u8 = 5;
 
 // The forms whose bodies these rules are about.
-const PLAIN: u8 = phase::FORM_PLAIN;
+const FORM_PLAIN: u8 = phase::FORM_PLAIN;
 
-const MESSAGE: u8 = phase::FORM_MESSAGE;
+const FORM_MESSAGE: u8 = phase::FORM_MESSAGE;
 
 // The class with this number.
 fn class_of(k: u8) -> Class
@@ -90,8 +91,8 @@ fn is_field(kind: u8, s: &[u8]) -> bool
         BID_RULE => field::is_bid(s),
         HEADING_RULE => field::is_heading(s),
         SIZE_RULE => is_size(s),
-        BODY_RULE => field::is_body(PLAIN, s),
-        _ => field::is_body(MESSAGE, s),
+        BODY_RULE => field::is_body(FORM_PLAIN, s),
+        _ => field::is_body(FORM_MESSAGE, s),
     }
 }
 

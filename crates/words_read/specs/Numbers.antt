@@ -13,10 +13,9 @@ use Rattle.grammar.specs.Sid.{noFeatures}
 use Rattle.grammar.specs.Turns.{Proposal, TurnLine, saysFF, saysFQ, endsBlock, notAllowed, proposes, endsSummed, turnLineNumber}
 use Rattle.byte.specs.declared.Hex.{Hex}
 use Rattle.span.specs.declared.Span.{Span}
-use Rattle.span.specs.Places.{part}
+use Rattle.span.specs.Places.{part, Lies}
 use Rattle.proposal.specs.declared.Proposal as code
 use Rattle.proposal.specs.declared.TurnLine as told
-use Rattle.proposal.specs.Meaning.{Within}
 
 -- A flag that is lent: any number but 0 says that it holds.
 abbrev pub holds : ℕ → Bool
@@ -76,20 +75,20 @@ eleven form type from at to bid size =
     form ∷ type ∷ from .start ∷ from .end ∷ at .start ∷ at .end ∷ to .start ∷ to .end ∷ bid .start ∷ bid .end ∷ size ∷ []
 
 -- The field w lies in the line l from a start to an end.
-abbrev pub Lies : Bytes → Bytes → Span → Type 0
-Lies l w s = (part l s ≡ w) × Within l s
+abbrev pub FieldLies : Bytes → Bytes → Span → Type 0
+FieldLies l w s = (part l s ≡ w) × Lies l s
 
 -- The eleven numbers are those of the proposal p in the line l: its form, type and size, and where its fields lie.
-pub record Numbers (l : Bytes) (p : Proposal) (out : List ℕ) : Type 0 where
+pub record ProposalNumbers (l : Bytes) (p : Proposal) (out : List ℕ) : Type 0 where
   pub from : Span
   pub at : Span
   pub to : Span
   pub bid : Span
   pub numbers : out ≡ eleven (formNumber (p .form)) (p .type) from at to bid (p .size)
-  pub fromLies : Lies l (p .from) from
-  pub atLies : Lies l (p .at) at
-  pub toLies : Lies l (p .to) to
-  pub bidLies : Lies l (p .bid) bid
+  pub fromLies : FieldLies l (p .from) from
+  pub atLies : FieldLies l (p .at) at
+  pub toLies : FieldLies l (p .to) to
+  pub bidLies : FieldLies l (p .bid) bid
 
 -- So many they are.
 abbrev pub numberCount : ℕ
@@ -108,7 +107,7 @@ NumbersOf l saysFF out = out ≡ zeros
 NumbersOf l saysFQ out = out ≡ zeros
 NumbersOf l endsBlock out = out ≡ zeros
 NumbersOf l notAllowed out = out ≡ zeros
-NumbersOf l (proposes p) out = Numbers l p out
+NumbersOf l (proposes p) out = ProposalNumbers l p out
 NumbersOf l (endsSummed h) out = out ≡ summedNumbers h
 
 -- ---------------------------------------------------------------- on the way there: the same of the code's own answer

@@ -14,13 +14,13 @@ ghost use Rattle.fs_line.specs.Answers.{answerNumber, answerSigns};
 ghost use Rattle.words_read.specs.Numbers.{holds, lineByteCode, sidLevels, turnLineCode, NumbersOf, proposalNumbers, endNumbers, endCode, toldNumbers, toldCode};
 
 // What a byte does where a line is awaited.
-const DROPPED: u8 = 0;
+const BYTE_DROPPED: u8 = 0;
 
-const ENDS: u8 = 1;
+const BYTE_ENDS: u8 = 1;
 
-const GROWS: u8 = 2;
+const BYTE_GROWS: u8 = 2;
 
-const OVERRUNS: u8 = 3;
+const BYTE_OVERRUNS: u8 = 3;
 
 // What a line says in a turn.
 const SAYS_FF: u8 = 0;
@@ -36,10 +36,10 @@ const ENDS_SUMMED: u8 = 4;
 const NOT_ALLOWED: u8 = refusal::LINE_NOT_ALLOWED;
 
 // The numbers of a proposal.
-const NUMBERS: usize = 11;
+const PROPOSAL_NUMBERS: usize = 11;
 
 // The signs of an FS line.
-const SIGNS: usize = phase::BLOCK_LIMIT as usize;
+const BLOCK_LIMIT: usize = phase::BLOCK_LIMIT as usize;
 
 // How many bytes of a line are judged: all but the spaces at its end.
 #[no_mangle]
@@ -54,10 +54,10 @@ fn line_byte_code(does: LineByte) -> u8
     ensures { λ r. ⌜ r ≡ lineByteCode (lineByteIs does) ⌝ }
 {
     match does {
-        LineByte::Dropped => DROPPED,
-        LineByte::Ends => ENDS,
-        LineByte::Grows => GROWS,
-        LineByte::Overruns => OVERRUNS,
+        LineByte::Dropped => BYTE_DROPPED,
+        LineByte::Ends => BYTE_ENDS,
+        LineByte::Grows => BYTE_GROWS,
+        LineByte::Overruns => BYTE_OVERRUNS,
     }
 }
 
@@ -66,7 +66,7 @@ fn line_byte_code(does: LineByte) -> u8
 pub extern "C" fn words_line_byte(after_cr: u8, len: usize, b: u8) -> u8
     ensures { λ r. ⌜ r ≡ lineByteCode (lineByte (holds «after_cr») len b) ⌝ }
 {
-    line_byte_code(line::line_byte(after_cr != 0, len, b))
+    line_byte_code(line::byte_does(after_cr != 0, len, b))
 }
 
 // What a line, its spaces at the end removed, says as a SID: 01's number, and the 27 levels.
@@ -82,7 +82,7 @@ pub extern "C" fn words_read_sid(line: &[u8], levels: &mut [u8; features::PLACES
 }
 
 // Form, type, start and end of from, at, to and BID, and size.
-fn proposal_numbers(p: Proposal) -> [u64; NUMBERS]
+fn proposal_numbers(p: Proposal) -> [u64; PROPOSAL_NUMBERS]
     ensures { λ r. ⌜ r ≡ proposalNumbers p ⌝ }
 {
     [
@@ -101,12 +101,12 @@ fn proposal_numbers(p: Proposal) -> [u64; NUMBERS]
 }
 
 // F>: its checksum stands first.
-fn end_numbers(check: Hex) -> [u64; NUMBERS]
+fn end_numbers(check: Hex) -> [u64; PROPOSAL_NUMBERS]
     ensures { λ r. ⌜ r ≡ endNumbers check ⌝ }
 {
     match check {
         Hex::Value(h) => [h as u64, 0, 0, 0, 0, 0, 0, 0, 0, 0, 0],
-        Hex::Other => [0u64; NUMBERS],
+        Hex::Other => [0u64; PROPOSAL_NUMBERS],
     }
 }
 
@@ -121,14 +121,14 @@ fn end_code(check: Hex) -> u8
 }
 
 // The numbers of a proposal, or the checksum behind F>; zeros for any other line.
-fn told_numbers(told: TurnLine) -> [u64; NUMBERS]
+fn told_numbers(told: TurnLine) -> [u64; PROPOSAL_NUMBERS]
     ensures { λ r. ⌜ r ≡ toldNumbers told ⌝ }
 {
     match told {
-        TurnLine::FF => [0u64; NUMBERS],
-        TurnLine::FQ => [0u64; NUMBERS],
+        TurnLine::FF => [0u64; PROPOSAL_NUMBERS],
+        TurnLine::FQ => [0u64; PROPOSAL_NUMBERS],
         TurnLine::End(check) => end_numbers(check),
-        TurnLine::NotAllowed => [0u64; NUMBERS],
+        TurnLine::NotAllowed => [0u64; PROPOSAL_NUMBERS],
         TurnLine::Proposed(p) => proposal_numbers(p),
     }
 }
@@ -148,7 +148,11 @@ fn told_code(told: TurnLine) -> u8
 
 // What a line, its spaces at the end removed, says in a turn, and a proposal's numbers or a block's checksum. framed: 0 plain mode, else framed mode.
 #[no_mangle]
-pub extern "C" fn words_read_turn_line(line: &[u8], framed: u8, out: &mut [u64; NUMBERS]) -> u8
+pub extern "C" fn words_read_turn_line(
+    line: &[u8],
+    framed: u8,
+    out: &mut [u64; PROPOSAL_NUMBERS],
+) -> u8
     ensures { λ r. ⌜ (r ≡ turnLineCode (readTurnLine (holds framed) (now (line .entry)))) × NumbersOf (now (line .entry)) (readTurnLine (holds framed) (now (line .entry))) (now (out .exit)) ⌝ }
 {
     let told = proposal::read_turn_line(line, framed != 0);
@@ -162,7 +166,7 @@ pub extern "C" fn words_read_fs(
     level: u8,
     line: &[u8],
     proposals: usize,
-    signs: &mut [u8; SIGNS],
+    signs: &mut [u8; BLOCK_LIMIT],
 ) -> u8
     ensures { λ r. ⌜ (r ≡ answerNumber level proposals (now (line .entry))) × (now (signs .exit) ≡ answerSigns level proposals (now (line .entry))) ⌝ }
 {

@@ -6,10 +6,10 @@ use lib.ListN.{length, take, drop, getD}
 use Rattle.grammar.specs.Bytes.{Bytes, byteValues, twoByteValues, fourByteValues}
 use Rattle.grammar.specs.Refusals.{badTransfer, badChecksum, storeFull}
 use Rattle.transfer_step.specs.declared.Reader.{Reader}
-use Rattle.transfer_step.specs.declared.Outcome.{Outcome}
-use Rattle.transfer_step.specs.declared.Outcome.the-variants.{More, Whole, Malformed, WrongSum, NoRoom}
+use Rattle.transfer_step.specs.declared.ReadOutcome.{ReadOutcome}
+use Rattle.transfer_step.specs.declared.ReadOutcome.the-variants.{More, Whole, Malformed, WrongSum, NoRoom}
 use Rattle.transfer_step.specs.Step.{reader}
-use Rattle.transfer_read.specs.Feed.{Run, feedOf, roomOf}
+use Rattle.transfer_read.specs.Feed.{PortionRead, feedOf, roomOf}
 
 -- A reader's numbers in the order: place, L, bytes of heading, of offset, of the body, of the block to come, sum; and how many bytes were consumed.
 abbrev pub readingState : Reader → ℕ → List ℕ
@@ -44,7 +44,7 @@ readerBy s =
     (getD s leftNumber 0 % twoByteValues) (getD s sumNumber 0 % byteValues) (getD s bodyNumber 0 % fourByteValues)
 
 -- 0 goes on, 1 whole, else 01's number of the refusal.
-abbrev pub outcomeCode : Outcome → ℕ
+abbrev pub outcomeCode : ReadOutcome → ℕ
 outcomeCode More = 0
 outcomeCode Whole = 1
 outcomeCode Malformed = badTransfer
@@ -52,12 +52,12 @@ outcomeCode WrongSum = badChecksum
 outcomeCode NoRoom = storeFull
 
 -- A portion read from a state on, into the heading's array and the store.
-abbrev pub portion : List ℕ → Bytes → Bytes → Bytes → Run
+abbrev pub portion : List ℕ → Bytes → Bytes → Bytes → PortionRead
 portion s bs heading store = feedOf (roomOf store) (readerBy s) bs heading store
 
 -- What is answered and left of a portion: its outcome, the state after it, the heading's array and the store.
-abbrev pub Leaves : Run → ℕ → List ℕ → Bytes → Bytes → Type 0
-Leaves u r s heading store =
+abbrev pub PortionLeaves : PortionRead → ℕ → List ℕ → Bytes → Bytes → Type 0
+PortionLeaves u r s heading store =
     (r ≡ outcomeCode (u .fed .outcome)) × (s ≡ readingState (u .fed .reader) (u .fed .count)) × (heading ≡ u .heading) × (store ≡ u .store)
 
 -- The buffer d with what fits of p over its start is e; n bytes fit.

@@ -1,41 +1,41 @@
 // Transfers for callers from C and Rust: read byte by byte in any portions, the checksum, and where a heading lies. They serve tests and
 // benchmarks; the product's own calls are in the crate fringemole.
 use buffer::Cursor;
-use transfer_step::Outcome;
+use transfer_step::ReadOutcome;
 use transfer_step::Reader;
 ghost use mathlib.Core.Path.{_≡_};
 ghost use Prim.Native.Nat.{_%_};
 ghost use Rattle.grammar.specs.Transfers.{checksum, headingOf};
 ghost use Rattle.transfer_step.specs.Step.{startOf};
-ghost use Rattle.words_transfer.specs.State.{readingState, readerBy, outcomeCode, portion, Leaves, Copied};
+ghost use Rattle.words_transfer.specs.State.{readingState, readerBy, outcomeCode, portion, PortionLeaves, Copied};
 ghost use Rattle.grammar.specs.Bytes.{byteValues};
 
 // A transfer under way as so many numbers, by their places; the last: how many bytes were consumed.
 const STATE: usize = 8;
 
-const PLACE: usize = 0;
+const PLACE_NUMBER: usize = 0;
 
-const LENGTH: usize = 1;
+const LENGTH_NUMBER: usize = 1;
 
-const HEAD: usize = 2;
+const HEAD_NUMBER: usize = 2;
 
-const OFFSET: usize = 3;
+const OFFSET_NUMBER: usize = 3;
 
-const BODY: usize = 4;
+const BODY_NUMBER: usize = 4;
 
-const LEFT: usize = 5;
+const LEFT_NUMBER: usize = 5;
 
-const SUM: usize = 6;
+const SUM_NUMBER: usize = 6;
 
 // How many values a byte has, and numbers of two and four bytes.
-const BYTE_VALUES: u64 = 256;
+const BYTE_VALUES: u64 = byte::BYTE_VALUES as u64;
 
 const TWO_BYTE_VALUES: u64 = BYTE_VALUES * BYTE_VALUES;
 
 const FOUR_BYTE_VALUES: u64 = TWO_BYTE_VALUES * TWO_BYTE_VALUES;
 
 // The heading's array.
-const HEADING: usize = places::HEADING_MAX as usize;
+const HEADING_ROOM: usize = places::HEADING_MAX as usize;
 
 // Outcomes beside refusals.
 const GOES_ON: u8 = 0;
@@ -70,26 +70,26 @@ fn reader_by(s: [u64; STATE]) -> Reader
     ensures { λ r. ⌜ r ≡ readerBy s ⌝ }
 {
     Reader {
-        place: low_byte(s[PLACE]),
-        len: low_byte(s[LENGTH]),
-        head: low_byte(s[HEAD]),
-        off: low_byte(s[OFFSET]),
-        left: (s[LEFT] % TWO_BYTE_VALUES) as u16,
-        sum: low_byte(s[SUM]),
-        body: (s[BODY] % FOUR_BYTE_VALUES) as u32,
+        place: low_byte(s[PLACE_NUMBER]),
+        len: low_byte(s[LENGTH_NUMBER]),
+        head: low_byte(s[HEAD_NUMBER]),
+        off: low_byte(s[OFFSET_NUMBER]),
+        left: (s[LEFT_NUMBER] % TWO_BYTE_VALUES) as u16,
+        sum: low_byte(s[SUM_NUMBER]),
+        body: (s[BODY_NUMBER] % FOUR_BYTE_VALUES) as u32,
     }
 }
 
 // 0 goes on, 1 whole, else 01's number.
-fn outcome_code(o: Outcome) -> u8
+fn outcome_code(o: ReadOutcome) -> u8
     ensures { λ r. ⌜ r ≡ outcomeCode o ⌝ }
 {
     match o {
-        Outcome::More => GOES_ON,
-        Outcome::Whole => WHOLE,
-        Outcome::Malformed => refusal::BAD_TRANSFER,
-        Outcome::WrongSum => refusal::BAD_CHECKSUM,
-        Outcome::NoRoom => refusal::STORE_FULL,
+        ReadOutcome::More => GOES_ON,
+        ReadOutcome::Whole => WHOLE,
+        ReadOutcome::Malformed => refusal::BAD_TRANSFER,
+        ReadOutcome::WrongSum => refusal::BAD_CHECKSUM,
+        ReadOutcome::NoRoom => refusal::STORE_FULL,
     }
 }
 
@@ -106,10 +106,10 @@ pub extern "C" fn words_transfer_start(form: u8, state: &mut [u64; STATE])
 pub extern "C" fn words_transfer_feed(
     state: &mut [u64; STATE],
     input: &[u8],
-    heading: &mut [u8; HEADING],
+    heading: &mut [u8; HEADING_ROOM],
     store: &mut [u8],
 ) -> u8
-    ensures { λ r. ⌜ Leaves (portion (now (state .entry)) (now (input .entry)) (now (heading .entry)) (now (store .entry))) r (now (state .exit)) (now (heading .exit)) (now (store .exit)) ⌝ }
+    ensures { λ r. ⌜ PortionLeaves (portion (now (state .entry)) (now (input .entry)) (now (heading .entry)) (now (store .entry))) r (now (state .exit)) (now (heading .exit)) (now (store .exit)) ⌝ }
 {
     let before = *state;
     let fed = transfer_read::feed(reader_by(before), input, heading, store);
@@ -147,7 +147,7 @@ pub extern "C" fn words_heading<'a>(
 ) -> usize
     ensures { λ r. ⌜ Copied (now (buf .entry)) (headingOf (now (titles .entry)) (now (names .entry)) form start len) r (now (buf .exit)) ⌝ }
 {
-    let heading = transfer_write::heading(titles, names, form, start, len);
+    let heading = transfer_write::write_heading(titles, names, form, start, len);
     let c = buffer::put(buf, Cursor { at: 0, skip: 0 }, heading);
     c.at
 }

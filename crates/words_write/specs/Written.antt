@@ -7,36 +7,31 @@ use lib.Dec.{eqb, ltb}
 use lib.ListN.{length}
 use Rattle.grammar.specs.Bytes.{Bytes}
 use Rattle.grammar.specs.Turns.{FixedLine, ourSid, ourPrompt, ourFF, ourFQ, ourEnd, fixedText, withCr}
-use Rattle.buffer.specs.declared.Cursor.{Cursor}
-use Rattle.buffer.specs.Put.{putBytes, cut}
-
--- The place where the next byte goes, and how many bytes of the text are passed over.
-abbrev pub cursor : ℕ → ℕ → Cursor
-cursor place skip = record { at = place; skip = skip }
+use Rattle.buffer.specs.Put.{putBytes, cut, cursor}
 
 -- The contract of every writer: of the text p, put into the buffer d from place on with skip bytes passed over, n bytes fit and leave e.
 abbrev pub Writes : Bytes → ℕ → ℕ → Bytes → ℕ → Bytes → Type 0
 Writes d place skip p n e = (n ≡ length (cut (length d - place) skip p)) × (e ≡ putBytes d (cursor place skip) p)
 
 -- The lines that never differ by their numbers: our SID, the prompt, FF, FQ, F>, and any other number as F>.
-abbrev pub sidLine : ℕ
-sidLine = 0
+abbrev pub sidLineNumber : ℕ
+sidLineNumber = 0
 
-abbrev pub promptLine : ℕ
-promptLine = 1
+abbrev pub promptLineNumber : ℕ
+promptLineNumber = 1
 
-abbrev pub ffLine : ℕ
-ffLine = 2
+abbrev pub ffLineNumber : ℕ
+ffLineNumber = 2
 
-abbrev pub fqLine : ℕ
-fqLine = 3
+abbrev pub fqLineNumber : ℕ
+fqLineNumber = 3
 
-abbrev pub endLine : ℕ
-endLine = 4
+abbrev pub endLineNumber : ℕ
+endLineNumber = 4
 
 unfoldable pub fixedBy : ℕ → FixedLine
-fixedBy k = cond (eqb k sidLine) ourSid (cond (eqb k promptLine) ourPrompt (cond (eqb k ffLine) ourFF (cond (eqb k fqLine) ourFQ ourEnd)))
+fixedBy k = cond (eqb k sidLineNumber) ourSid (cond (eqb k promptLineNumber) ourPrompt (cond (eqb k ffLineNumber) ourFF (cond (eqb k fqLineNumber) ourFQ ourEnd)))
 
 -- The text of such a line with its CR; nothing for a number past that of F>.
 unfoldable pub fixedBytes : ℕ → Bytes
-fixedBytes k = cond (ltb endLine k) [] (withCr (fixedText (fixedBy k)))
+fixedBytes k = cond (ltb endLineNumber k) [] (withCr (fixedText (fixedBy k)))

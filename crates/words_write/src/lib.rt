@@ -1,34 +1,34 @@
 // The writers of the protocol's words for callers from C and Rust, each resumed at any byte with any room; how many bytes were written is
 // answered. They serve tests and benchmarks; the product's own calls are in the crate fringemole.
 use buffer::Cursor;
-use our_line::Fixed;
+use our_line::FixedKind;
 ghost use mathlib.Core.Path.{_≡_};
 ghost use Rattle.grammar.specs.Turns.{withCr, proposalLine};
 ghost use Rattle.grammar.specs.Transfers.{writePlain, writeFramed};
-ghost use Rattle.our_line.specs.Lines.{fixedIs, proposalIs, fsText};
+ghost use Rattle.our_line.specs.Lines.{fixedIs, proposalOfFields, fsText};
 ghost use Rattle.words_write.specs.Written.{Writes, fixedBy, fixedBytes};
 
 // The lines that never differ by number: our SID, the prompt, FF, FQ and F>.
-const SID: u8 = 0;
+const SID_LINE: u8 = 0;
 
-const PROMPT: u8 = 1;
+const PROMPT_LINE: u8 = 1;
 
-const FF: u8 = 2;
+const FF_LINE: u8 = 2;
 
-const FQ: u8 = 3;
+const FQ_LINE: u8 = 3;
 
-const END: u8 = 4;
+const END_LINE: u8 = 4;
 
 // The line with this number; F> for any number from its own on.
-fn fixed_of(which: u8) -> Fixed
+fn fixed_of(which: u8) -> FixedKind
     ensures { λ r. ⌜ fixedIs r ≡ fixedBy which ⌝ }
 {
     match which {
-        SID => Fixed::Sid,
-        PROMPT => Fixed::Prompt,
-        FF => Fixed::FF,
-        FQ => Fixed::FQ,
-        _ => Fixed::End,
+        SID_LINE => FixedKind::Sid,
+        PROMPT_LINE => FixedKind::Prompt,
+        FF_LINE => FixedKind::FF,
+        FQ_LINE => FixedKind::FQ,
+        _ => FixedKind::End,
     }
 }
 
@@ -37,7 +37,7 @@ fn fixed_of(which: u8) -> Fixed
 pub extern "C" fn words_write_fixed(which: u8, buf: &mut [u8], place: usize, skip: usize) -> usize
     ensures { λ r. ⌜ Writes (now (buf .entry)) place skip (fixedBytes which) r (now (buf .exit)) ⌝ }
 {
-    if END < which {
+    if END_LINE < which {
         return 0;
     }
     let after = our_line::write_fixed(fixed_of(which), buf, Cursor { at: place, skip });
@@ -58,7 +58,7 @@ pub extern "C" fn words_write_proposal(
     bid: &[u8],
     size: u32,
 ) -> usize
-    ensures { λ r. ⌜ Writes (now (buf .entry)) place skip (withCr (proposalLine (proposalIs form kind (now (from .entry)) (now (at .entry)) (now (to .entry)) (now (bid .entry)) size))) r (now (buf .exit)) ⌝ }
+    ensures { λ r. ⌜ Writes (now (buf .entry)) place skip (withCr (proposalLine (proposalOfFields form kind (now (from .entry)) (now (at .entry)) (now (to .entry)) (now (bid .entry)) size))) r (now (buf .exit)) ⌝ }
 {
     let after = our_line::write_proposal(
         buf,

@@ -9,7 +9,7 @@ use Rattle.phase.specs.Phase.{phaseCalledSid, phaseCallerSid, phasePrompt, phas
 use Rattle.places.specs.Places.{headingAt}
 use Rattle.numbers.specs.Whole.{withDeferred, withBlock, sessionOf}
 use Rattle.line_effect.specs.Judge.{sidLine, textLine, answerLine}
-use Rattle.awaited_line.proofs.Laws.{comment-in, line-in, sid-in, past-sid, judging, told, trimmed-by, as-it-was, on-deferred, on-block}
+use Rattle.awaited_line.proofs.Laws.{comment-in, line-in, sid-in, past-sid, judging, comment-told, trimmed-by, as-it-was, on-deferred, on-block}
 use borrow.Author.Needs.{needs}
 use Rattle.awaited_line.proofs.judge.Statement.{statement}
 use Rattle.awaited_line.proofs.judge.Tie as tie
@@ -31,7 +31,7 @@ returns c =
     let a = c .before .before .before .before .before .before .before .before .before .before .args in
     let f = judging (a .line .now) (a .table .now) (a .known .now) (a .inbox .now) (a .store) in
     as-it-was (a .s) (a .mem .now) (c .before .before .before .before .before .before .before .before .before .before .pre) (c .went .result) f
-    (λ x. comment-in (sessionOf (a .s) x) (a .line .now) (a .table .now) (a .known .now) (a .inbox .now) (a .store) _ (told _ _ _ _ (c .before .before .before .before .trimmed .ensures .0) (c .before .before .is-comment .ensures) (c .before .if1 .taken)) (c .went .ensures x))
+    (λ x. comment-in (sessionOf (a .s) x) (a .line .now) (a .table .now) (a .known .now) (a .inbox .now) (a .store) _ (comment-told _ _ _ _ (c .before .before .before .before .trimmed .ensures .0) (c .before .before .is-comment .ensures) (c .before .if1 .taken)) (c .went .ensures x))
 
 slice-aggregate-sid-line : tie.Need-slice-aggregate-sid-line
 slice-aggregate-sid-line c = sym (length-take-le (c .before .before .before .before .before .trimmed .result) (c .before .before .before .before .before .before .before .before .before .before .before .args .line .now) (c .before .before .before .before .before .trimmed .ensures .1))
@@ -44,7 +44,7 @@ returns-2 c =
     let a = c .before .before .before .before .before .before .before .before .before .before .before .before .args in
     let f = judging (a .line .now) (a .table .now) (a .known .now) (a .inbox .now) (a .store) in
     as-it-was (a .s) (a .mem .now) (c .before .before .before .before .before .before .before .before .before .before .before .before .pre) (c .sid-line .result) f
-    (λ x. line-in (sessionOf (a .s) x) (a .line .now) (a .table .now) (a .known .now) (a .inbox .now) (a .store) _ (a .s .now .phase) (refl) (told _ _ _ _ (c .before .before .before .before .before .before .trimmed .ensures .0) (c .before .before .before .before .is-comment .ensures) (c .before .before .before .if1 .left)) (sid-in (sessionOf (a .s) x) (a .line .now) (a .table .now) (a .known .now) (a .inbox .now) (a .store) _ (a .s .now .phase) (c .before .before .if2 .taken) (trimmed-by _ _ (λ w. sidLine w (sessionOf (a .s) x)) _ (c .before .before .before .before .before .before .trimmed .ensures .0) (c .sid-line .ensures x))))
+    (λ x. line-in (sessionOf (a .s) x) (a .line .now) (a .table .now) (a .known .now) (a .inbox .now) (a .store) _ (a .s .now .phase) (refl) (comment-told _ _ _ _ (c .before .before .before .before .before .before .trimmed .ensures .0) (c .before .before .before .before .is-comment .ensures) (c .before .before .before .if1 .left)) (sid-in (sessionOf (a .s) x) (a .line .now) (a .table .now) (a .known .now) (a .inbox .now) (a .store) _ (a .s .now .phase) (c .before .before .if2 .taken) (trimmed-by _ _ (λ w. sidLine w (sessionOf (a .s) x)) _ (c .before .before .before .before .before .before .trimmed .ensures .0) (c .sid-line .ensures x))))
 
 slice-aggregate-text-line : tie.Need-slice-aggregate-text-line
 slice-aggregate-text-line c = sym (length-take-le (c .before .before .before .before .before .before .trimmed .result) (c .before .before .before .before .before .before .before .before .before .before .before .before .args .line .now) (c .before .before .before .before .before .before .trimmed .ensures .1))
@@ -84,7 +84,7 @@ returns-3 c =
     let a = c .before .before .before .before .before .before .before .before .before .before .before .before .before .args in
     let f = judging (a .line .now) (a .table .now) (a .known .now) (a .inbox .now) (a .store) in
     as-it-was (a .s) (a .mem .now) (c .before .before .before .before .before .before .before .before .before .before .before .before .before .pre) (c .text-line .result) f
-    (λ x. line-in (sessionOf (a .s) x) (a .line .now) (a .table .now) (a .known .now) (a .inbox .now) (a .store) _ phasePrompt (c .before .before .match .keys1) (told _ _ _ _ (c .before .before .before .before .before .before .before .trimmed .ensures .0) (c .before .before .before .before .before .is-comment .ensures) (c .before .before .before .before .if1 .left)) (trimmed-by _ _ (λ w. textLine w (sessionOf (a .s) x)) _ (c .before .before .before .before .before .before .before .trimmed .ensures .0) (c .text-line .ensures x)))
+    (λ x. line-in (sessionOf (a .s) x) (a .line .now) (a .table .now) (a .known .now) (a .inbox .now) (a .store) _ phasePrompt (c .before .before .match .keys1) (comment-told _ _ _ _ (c .before .before .before .before .before .before .before .trimmed .ensures .0) (c .before .before .before .before .before .is-comment .ensures) (c .before .before .before .before .if1 .left)) (trimmed-by _ _ (λ w. textLine w (sessionOf (a .s) x)) _ (c .before .before .before .before .before .before .before .trimmed .ensures .0) (c .text-line .ensures x)))
 
 same-length : tie.Need-same-length
 same-length c = search needs
@@ -94,7 +94,7 @@ returns-4 c =
     let a = c .before .before .before .before .before .before .before .before .before .before .before .before .before .before .before .args in
     let f = judging (a .line .now) (a .table .now) (a .known .now) (a .inbox .now) (a .store) in
     on-block (a .s) (a .mem .now) (c .before .before .before .before .before .before .before .before .before .before .before .before .before .before .before .pre) (c .before .before .turn-line .result) f _ (c .before .mem .given .0)
-    (λ x. line-in (sessionOf (a .s) (withBlock _ x)) (a .line .now) (a .table .now) (a .known .now) (a .inbox .now) (a .store) _ phaseTurn (c .before .before .before .before .match .keys2) (told _ _ _ _ (c .before .before .before .before .before .before .before .before .before .trimmed .ensures .0) (c .before .before .before .before .before .before .before .is-comment .ensures) (c .before .before .before .before .before .before .if1 .left)) (c .before .before .turn-line .ensures x))
+    (λ x. line-in (sessionOf (a .s) (withBlock _ x)) (a .line .now) (a .table .now) (a .known .now) (a .inbox .now) (a .store) _ phaseTurn (c .before .before .before .before .match .keys2) (comment-told _ _ _ _ (c .before .before .before .before .before .before .before .before .before .trimmed .ensures .0) (c .before .before .before .before .before .before .before .is-comment .ensures) (c .before .before .before .before .before .before .if1 .left)) (c .before .before .turn-line .ensures x))
 
 same-length-2 : tie.Need-same-length-2
 same-length-2 c = search needs
@@ -104,7 +104,7 @@ returns-5 c =
     let a = c .before .before .before .before .before .before .before .before .before .before .before .before .before .before .before .before .args in
     let f = judging (a .line .now) (a .table .now) (a .known .now) (a .inbox .now) (a .store) in
     on-deferred (a .s) (a .mem .now) (c .before .before .before .before .before .before .before .before .before .before .before .before .before .before .before .before .pre) (c .before .before .answer-line .result) f _ (c .before .mem2 .given .0)
-    (λ x. line-in (sessionOf (a .s) (withDeferred _ x)) (a .line .now) (a .table .now) (a .known .now) (a .inbox .now) (a .store) _ phaseFs (c .before .before .before .before .before .match .keys3) (told _ _ _ _ (c .before .before .before .before .before .before .before .before .before .before .trimmed .ensures .0) (c .before .before .before .before .before .before .before .before .is-comment .ensures) (c .before .before .before .before .before .before .before .if1 .left)) (trimmed-by _ _ (λ w. answerLine w (sessionOf (a .s) (withDeferred (take headingAt (a .mem .now)) x))) _ (c .before .before .before .before .before .before .before .before .before .before .trimmed .ensures .0) (c .before .before .answer-line .ensures x)))
+    (λ x. line-in (sessionOf (a .s) (withDeferred _ x)) (a .line .now) (a .table .now) (a .known .now) (a .inbox .now) (a .store) _ phaseFs (c .before .before .before .before .before .match .keys3) (comment-told _ _ _ _ (c .before .before .before .before .before .before .before .before .before .before .trimmed .ensures .0) (c .before .before .before .before .before .before .before .before .is-comment .ensures) (c .before .before .before .before .before .before .before .if1 .left)) (trimmed-by _ _ (λ w. answerLine w (sessionOf (a .s) (withDeferred (take headingAt (a .mem .now)) x))) _ (c .before .before .before .before .before .before .before .before .before .before .trimmed .ensures .0) (c .before .before .answer-line .ensures x)))
 
 returns-6 : tie.Need-returns-6
 returns-6 c =
@@ -112,7 +112,7 @@ returns-6 c =
     let f = judging (a .line .now) (a .table .now) (a .known .now) (a .inbox .now) (a .store) in
     let past = c .before .before .if2 .left in
     as-it-was (a .s) (a .mem .now) (c .before .before .before .before .before .before .before .before .before .before .before .before .pre) (c .refusal .result) f
-    (λ x. line-in (sessionOf (a .s) x) (a .line .now) (a .table .now) (a .known .now) (a .inbox .now) (a .store) _ (a .s .now .phase) (refl) (told _ _ _ _ (c .before .before .before .before .before .before .trimmed .ensures .0) (c .before .before .before .before .is-comment .ensures) (c .before .before .before .if1 .left)) (rw (past-sid (a .s .now .phase) phaseCalledSid (omega arith) past, past-sid (a .s .now .phase) phaseCallerSid (omega arith) past, ne-eqb _ _ (c .before .match .rest .0 .0 .1), ne-eqb _ _ (c .before .match .rest .0 .1), ne-eqb _ _ (c .before .match .rest .1)) (c .refusal .ensures x)))
+    (λ x. line-in (sessionOf (a .s) x) (a .line .now) (a .table .now) (a .known .now) (a .inbox .now) (a .store) _ (a .s .now .phase) (refl) (comment-told _ _ _ _ (c .before .before .before .before .before .before .trimmed .ensures .0) (c .before .before .before .before .is-comment .ensures) (c .before .before .before .if1 .left)) (rw (past-sid (a .s .now .phase) phaseCalledSid (omega arith) past, past-sid (a .s .now .phase) phaseCallerSid (omega arith) past, ne-eqb _ _ (c .before .match .rest .0 .0 .1), ne-eqb _ _ (c .before .match .rest .0 .1), ne-eqb _ _ (c .before .match .rest .1)) (c .refusal .ensures x)))
 
 pub judge-spec : {M : Type 1} → statement M
 judge-spec =

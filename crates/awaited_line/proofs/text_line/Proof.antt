@@ -1,7 +1,7 @@
 -- One test, the prompt.
 use mathlib.Core.Path.{sym, ap, _∙_}
 use Rattle.line_effect.specs.declared.Marks.{Marks}
-use Rattle.phase.specs.Phase.{ourTurn}
+use Rattle.phase.specs.Phase.{ourTurnNow}
 use Rattle.session_memory.specs.Setters.{withSay}
 use Rattle.numbers.specs.Whole.{sessionOf}
 use Rattle.line_effect.specs.Judge.{judged, saysFirst, signOnPiece, textLine}
@@ -20,7 +20,7 @@ unfolding textLine
 returns c = λ x.
     let a = c .before .before .before .before .before .args in
     rw (sym (c .before .before .before .is-prompt .ensures) ∙ c .before .before .if1 .taken)
-    (ap (λ (m : Marks). judged 0 ourTurn m (withSay (saysFirst (signOnPiece (sessionOf (a .s) x)) (a .s .say)) (sessionOf (a .s) x))) (c .unmarked .ensures))
+    (ap (λ (m : Marks). judged 0 ourTurnNow m (withSay (saysFirst (signOnPiece (sessionOf (a .s) x)) (a .s .say)) (sessionOf (a .s) x))) (c .unmarked .ensures))
 
 went-requires : tie.Need-went-requires
 went-requires c κs = search needs

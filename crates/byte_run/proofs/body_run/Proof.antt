@@ -31,8 +31,8 @@ returns c =
     let q = c .before .before .before .before .run-on in
     (refl, store-same (a .store .now) (a .s .keep .used) (q .result .all) (q .result .reader) (a .s .reader) (a .bytes .now) (q .last .1 .1 .0) (q .ensures) (not-true _ (c .if1 .taken)))
 
-put-reader-requires : tie.Need-put-reader-requires
-put-reader-requires c κs = search needs
+put-read-so-far-requires : tie.Need-put-read-so-far-requires
+put-read-so-far-requires c κs = search needs
 
 same-length-2 : tie.Need-same-length-2
 same-length-2 c = search needs
@@ -46,8 +46,8 @@ returns-2 c =
     let p = c .before .before .before .before .before .before .before .before .before .before .before .before .before .before .before .pre in
     let q = c .before .before .before .before .before .before .before .before .before .run-on in
     let f = not-false _ (c .before .before .before .before .before .if1 .left) in
-    subst (λ (l : Bytes). Takes true (a .sm .now) (a .store .now) (a .bytes .now) (c .before .before .put-reader .last .0) l) (sym (store-after (a .store .now) (a .s .keep .used) (q .result .all) (q .result .reader) (a .s .reader) (a .bytes .now) (q .last .1 .1 .0) (q .ensures)))
-    (body-taken (a .sm .now) (a .bytes .now) (a .s) (p .0) (p .1) (p .2) (a .store .now) (p .3 .used) (q .result .reader) (q .last .1 .1 .0) (c .before .before .put-reader .last .0) (runs-on (a .store .now) (a .s .keep .used) (q .result .all) (q .result .reader) (a .s .reader) (a .bytes .now) (q .last .1 .1 .0) (q .ensures) f) (c .before .before .put-reader .ensures))
+    subst (λ (l : Bytes). Takes true (a .sm .now) (a .store .now) (a .bytes .now) (c .before .before .put-read-so-far .last .0) l) (sym (store-after (a .store .now) (a .s .keep .used) (q .result .all) (q .result .reader) (a .s .reader) (a .bytes .now) (q .last .1 .1 .0) (q .ensures)))
+    (body-taken (a .sm .now) (a .bytes .now) (a .s) (p .0) (p .1) (p .2) (a .store .now) (p .3 .used) (q .result .reader) (q .last .1 .1 .0) (c .before .before .put-read-so-far .last .0) (runs-on (a .store .now) (a .s .keep .used) (q .result .all) (q .result .reader) (a .s .reader) (a .bytes .now) (q .last .1 .1 .0) (q .ensures) f) (c .before .before .put-read-so-far .ensures))
 
 pub body-run-spec : {M : Type 1} → statement M
 body-run-spec =
@@ -59,7 +59,7 @@ body-run-spec =
     run-on-requires
     same-length
     returns
-    put-reader-requires
+    put-read-so-far-requires
     same-length-2
     same-length-3
     returns-2)

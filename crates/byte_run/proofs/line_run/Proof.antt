@@ -37,11 +37,11 @@ add-put-whole c = search needs
 put-whole-requires : tie.Need-put-whole-requires
 put-whole-requires c κs = search needs
 
-add-put-line : tie.Need-add-put-line
-add-put-line c = search needs
+add-put-line-length : tie.Need-add-put-line-length
+add-put-line-length c = search needs
 
-put-line-requires : tie.Need-put-line-requires
-put-line-requires c κs = search needs
+put-line-length-requires : tie.Need-put-line-length-requires
+put-line-length-requires c κs = search needs
 
 same-length : tie.Need-same-length
 same-length c = search needs
@@ -51,7 +51,7 @@ unfolding region lent
 returns-4 c =
     let a = c .before .before .before .before .before .before .before .before .before .before .before .before .before .before .before .args in
     let p = c .before .before .before .before .before .before .before .before .before .before .before .before .before .before .before .pre in
-    line-taken (a .sm .now) (a .bytes .now) (a .s) (p .0) (p .1) (p .2) (sym (c .before .before .before .before .before .before .before .before .before .has-cr .ensures) ∙ c .before .before .before .before .before .before .before .before .if3 .left) (omega (arith, c .before .before .before .before .before .before .before .before .before .before .before .if1 .left, c .before .before .before .before .before .before .before .before .before .before .if2 .left)) _ _ (c .before .before .before .before .before .before .put-whole .ensures) (c .before .before .put-line .ensures)
+    line-taken (a .sm .now) (a .bytes .now) (a .s) (p .0) (p .1) (p .2) (sym (c .before .before .before .before .before .before .before .before .before .has-cr .ensures) ∙ c .before .before .before .before .before .before .before .before .if3 .left) (omega (arith, c .before .before .before .before .before .before .before .before .before .before .before .if1 .left, c .before .before .before .before .before .before .before .before .before .before .if2 .left)) _ _ (c .before .before .before .before .before .before .put-whole .ensures) (c .before .before .put-line-length .ensures)
 
 pub line-run-spec : {M : Type 1} → statement M
 line-run-spec =
@@ -67,7 +67,7 @@ line-run-spec =
     part-put-whole-end
     add-put-whole
     put-whole-requires
-    add-put-line
-    put-line-requires
+    add-put-line-length
+    put-line-length-requires
     same-length
     returns-4)

@@ -22,11 +22,11 @@ abbrev μ-loop : tie.MeasureT-loop
 loop-holds : tie.Need-loop-holds Inv-loop μ-loop
 loop-holds c = (omega arith, refl, refl, refl, refl, refl)
 
-shared-slice-read-step : tie.Need-shared-slice-read-step Inv-loop μ-loop
-shared-slice-read-step c = search needs
+shared-slice-read-play-byte : tie.Need-shared-slice-read-play-byte Inv-loop μ-loop
+shared-slice-read-play-byte c = search needs
 
-step-requires : tie.Need-step-requires Inv-loop μ-loop
-step-requires c κs = search needs
+play-byte-requires : tie.Need-play-byte-requires Inv-loop μ-loop
+play-byte-requires c κs = search needs
 
 same-length : tie.Need-same-length Inv-loop μ-loop
 same-length c = search needs
@@ -44,7 +44,7 @@ returns : tie.Need-returns Inv-loop μ-loop
 returns c =
     let l = c .before .before .before .before .before .before .before .before .before .before .before .before .before .before .before .before .loop in
     let a = c .before .before .before .before .before .before .before .before .before .before .before .before .before .before .before .before .before .before .before .before .before .before .args in
-    play-stops (playing (l .p) (station (l .session) (l .inbox) (l .store)) (l .out)) _ (a .bytes .now) (l .i) (c .before .before .before .before .before .before .before .before .before .before .before .before .before .before .before .loop-test .taken) (c .before .before .before .before .before .before .before .before .before .step .ensures) (c .if1 .taken) ∙ sym (l .inv .5)
+    play-stops (playing (l .p) (station (l .session) (l .inbox) (l .store)) (l .out)) _ (a .bytes .now) (l .i) (c .before .before .before .before .before .before .before .before .before .before .before .before .before .before .before .loop-test .taken) (c .before .before .before .before .before .before .before .before .before .play-byte .ensures) (c .if1 .taken) ∙ sym (l .inv .5)
 
 add-i : tie.Need-add-i Inv-loop μ-loop
 add-i c = search needs
@@ -62,7 +62,7 @@ loop-again c = (
   c .before .before .before .before .before .before .before .before .before .before .before .before .before .before .before .before .loop .inv .5 ∙
       let l = c .before .before .before .before .before .before .before .before .before .before .before .before .before .before .before .before .loop in
       let a = c .before .before .before .before .before .before .before .before .before .before .before .before .before .before .before .before .before .before .before .before .before .before .args in
-      play-more (playing (l .p) (station (l .session) (l .inbox) (l .store)) (l .out)) _ (a .bytes .now) (l .i) (c .before .before .before .before .before .before .before .before .before .before .before .before .before .before .before .loop-test .taken) (c .before .before .before .before .before .before .before .before .before .step .ensures) (c .if1 .left),
+      play-more (playing (l .p) (station (l .session) (l .inbox) (l .store)) (l .out)) _ (a .bytes .now) (l .i) (c .before .before .before .before .before .before .before .before .before .before .before .before .before .before .before .loop-test .taken) (c .before .before .before .before .before .before .before .before .before .play-byte .ensures) (c .if1 .left),
 )
 
 same-length-5 : tie.Need-same-length-5 Inv-loop μ-loop
@@ -91,8 +91,8 @@ play-spec =
     Inv-loop
     μ-loop
     loop-holds
-    shared-slice-read-step
-    step-requires
+    shared-slice-read-play-byte
+    play-byte-requires
     same-length
     same-length-2
     same-length-3

@@ -5,8 +5,8 @@ use Rattle.capture.proofs.Laws.{taken-is}
 use Rattle.capture.proofs.taken.Statement.{statement}
 use Rattle.capture.proofs.taken.Tie as tie
 
-take-requires : tie.Need-take-requires
-take-requires c κs = search needs
+take-given-requires : tie.Need-take-given-requires
+take-given-requires c κs = search needs
 
 slice-aggregate-hear : tie.Need-slice-aggregate-hear
 slice-aggregate-hear c = search needs
@@ -29,13 +29,13 @@ same-length-4 c = search needs
 returns : tie.Need-returns
 returns c =
     let a = c .before .before .before .before .before .before .before .before .before .before .before .before .before .before .before .before .before .before .before .before .before .before .before .before .args in
-    taken-is (a .answer) (station (a .session .now) (a .inbox .now) (a .store .now)) (a .out .now) (a .n) (c .before .before .before .before .before .before .before .before .before .before .before .before .before .before .before .take .ensures) (c .before .before .before .before .before .before .hear .ensures)
+    taken-is (a .answer) (station (a .session .now) (a .inbox .now) (a .store .now)) (a .out .now) (a .n) (c .before .before .before .before .before .before .before .before .before .before .before .before .before .before .before .take-given .ensures) (c .before .before .before .before .before .before .hear .ensures)
 
 pub taken-spec : {M : Type 1} → statement M
 taken-spec =
     tie.close
     (tie.spec
-    take-requires
+    take-given-requires
     slice-aggregate-hear
     hear-requires
     same-length

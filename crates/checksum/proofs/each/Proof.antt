@@ -5,7 +5,7 @@ use native.Mathlib.Omega.{arith}
 use lib.ListN.{length, take}
 use borrow.Author.Needs.{needs}
 use Rattle.grammar.specs.Transfers.{byteSum}
-use Rattle.checksum.proofs.Laws.{starts, byte-more, bytes-all}
+use Rattle.checksum.proofs.Laws.{sum-starts, byte-more, bytes-all}
 use Rattle.checksum.proofs.each.Statement.{statement}
 use Rattle.checksum.proofs.each.Tie as tie
 use Rattle.grammar.specs.Bytes.{byteValues}
@@ -17,7 +17,7 @@ abbrev μ-loop : tie.MeasureT-loop
 μ-loop t s r₀ i₀ r i = length s - i
 
 loop-holds : tie.Need-loop-holds Inv-loop μ-loop
-loop-holds c = (search needs, starts (c .before .args .t) (omega arith))
+loop-holds c = (search needs, sum-starts (c .before .args .t) (omega arith))
 
 shared-slice-read-add : tie.Need-shared-slice-read-add Inv-loop μ-loop
 shared-slice-read-add c = search needs

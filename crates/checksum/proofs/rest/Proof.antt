@@ -4,13 +4,13 @@ use native.Mathlib.Omega.{arith}
 use lib.ListN.{length}
 use lib.Seq.{length-take-le}
 use borrow.Author.Needs.{needs}
-use Rattle.checksum.proofs.Laws.{none-more, whole-rounds, rest-sum}
+use Rattle.checksum.proofs.Laws.{no-byte-more, whole-rounds, rest-sum}
 use Rattle.checksum.proofs.rest.Statement.{statement}
 use Rattle.checksum.proofs.rest.Tie as tie
 use Rattle.checksum.specs.Lanes.{roundSize}
 
 returns : tie.Need-returns
-returns c = none-more (c .before .before .args .s .now) (c .before .before .args .t) (omega arith) (c .if1 .taken)
+returns c = no-byte-more (c .before .before .args .s .now) (c .before .before .args .t) (omega arith) (c .if1 .taken)
 
 each-requires : tie.Need-each-requires
 each-requires c κs = search needs

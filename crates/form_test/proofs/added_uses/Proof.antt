@@ -7,10 +7,10 @@ use Rattle.form_test.specs.Form.{usedFrom}
 use Rattle.form_test.proofs.Laws.{added-used}
 use Rattle.form_test.proofs.added_uses.Statement.{statement}
 use Rattle.form_test.proofs.added_uses.Tie as tie
-use Rattle.grammar.specs.Fields.{bodyLimit}
+use Rattle.grammar.specs.Fields.{bodyMax}
 
 abbrev Inv-loop : tie.InvT-loop
-Inv-loop before inbox i n total₀ k₀ total k = (k ≤ n) × (total ≤ bodyLimit * (i + k)) × (total ≡ before + usedFrom inbox i k)
+Inv-loop before inbox i n total₀ k₀ total k = (k ≤ n) × (total ≤ bodyMax * (i + k)) × (total ≡ before + usedFrom inbox i k)
 
 abbrev μ-loop : tie.MeasureT-loop
 μ-loop before inbox i n total₀ k₀ total k = n - k

@@ -1,6 +1,6 @@
 -- The definition's tests are the code's.
 use borrow.Author.Tests.{eq-eqb, ne-eqb}
-use Rattle.grammar.proofs.Basics.{told, told-not}
+use Rattle.grammar.proofs.Basics.{not-told, told-not}
 use Rattle.session_memory.specs.State.{loadOf, loadAwait, loadSay}
 use Rattle.form_test.specs.Form.{closedOk}
 use borrow.Author.Needs.{needs}
@@ -22,7 +22,7 @@ shared-slice-read-if2 c = search needs
 
 returns-2 : tie.Need-returns-2
 unfolding closedOk loadOf loadAwait loadSay
-returns-2 c = rw (told (c .before .before .before .is-closed .ensures) (c .before .before .if1 .left), ne-eqb _ _ (c .if2 .taken))
+returns-2 c = rw (not-told (c .before .before .before .is-closed .ensures) (c .before .before .if1 .left), ne-eqb _ _ (c .if2 .taken))
 
 shared-slice-read-is-last : tie.Need-shared-slice-read-is-last
 shared-slice-read-is-last c = search needs
@@ -32,7 +32,7 @@ is-last-requires c κs = search needs
 
 returns-3 : tie.Need-returns-3
 unfolding closedOk loadOf loadAwait loadSay
-returns-3 c = rw (told (c .before .before .before .before .before .is-closed .ensures) (c .before .before .before .before .if1 .left), eq-eqb _ _ (c .before .before .if2 .left)) (c .is-last .ensures)
+returns-3 c = rw (not-told (c .before .before .before .before .before .is-closed .ensures) (c .before .before .before .before .if1 .left), eq-eqb _ _ (c .before .before .if2 .left)) (c .is-last .ensures)
 
 pub closed-ok-spec : {M : Type 1} → statement M
 closed-ok-spec =

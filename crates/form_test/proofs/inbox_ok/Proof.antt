@@ -9,7 +9,7 @@ use Rattle.layout.specs.Layout.{byteAt}
 use Rattle.places.specs.Places.{keptAt}
 use Rattle.session_memory.specs.State.{loadOf, loadKeep}
 use Rattle.form_test.specs.Form.{inboxOk}
-use Rattle.form_test.proofs.Laws.{kept-is, kept-not, both-are, both-not}
+use Rattle.form_test.proofs.Laws.{kept-fits, kept-not, both-are, both-not}
 use borrow.Author.Needs.{needs}
 use Rattle.form_test.proofs.inbox_ok.Statement.{statement}
 use Rattle.form_test.proofs.inbox_ok.Tie as tie
@@ -39,11 +39,11 @@ used-by-requires c κs = omega (arith, c .before .before .wide .ensures .0, c .b
 
 returns-3 : tie.Need-returns-3
 unfolding inboxOk loadOf loadKeep
-returns-3 c = let a = c .before .before .before .before .before .before .before .before .before .before .args in rw (le-leb _ _ (c .before .before .before .before .before .before .if1 .left), kept-is (byteAt (a .sm .now) keptAt) (length (a .inbox .now)) (c .before .before .before .before .wide .ensures .0) (c .before .before .before .if2 .left), both-not (c .before .used-by .ensures) (c .before .before .eight .ensures) (c .if3 .taken))
+returns-3 c = let a = c .before .before .before .before .before .before .before .before .before .before .args in rw (le-leb _ _ (c .before .before .before .before .before .before .if1 .left), kept-fits (byteAt (a .sm .now) keptAt) (length (a .inbox .now)) (c .before .before .before .before .wide .ensures .0) (c .before .before .before .if2 .left), both-not (c .before .used-by .ensures) (c .before .before .eight .ensures) (c .if3 .taken))
 
 returns-4 : tie.Need-returns-4
 unfolding inboxOk loadOf loadKeep
-returns-4 c = let a = c .before .before .before .before .before .before .before .before .before .before .args in rw (le-leb _ _ (c .before .before .before .before .before .before .if1 .left), kept-is (byteAt (a .sm .now) keptAt) (length (a .inbox .now)) (c .before .before .before .before .wide .ensures .0) (c .before .before .before .if2 .left), both-are (c .before .used-by .ensures) (c .before .before .eight .ensures) (c .if3 .left)) (ap (λ (n : ℕ). leb n (length (a .store .now))) (c .before .before .eight .ensures))
+returns-4 c = let a = c .before .before .before .before .before .before .before .before .before .before .args in rw (le-leb _ _ (c .before .before .before .before .before .before .if1 .left), kept-fits (byteAt (a .sm .now) keptAt) (length (a .inbox .now)) (c .before .before .before .before .wide .ensures .0) (c .before .before .before .if2 .left), both-are (c .before .used-by .ensures) (c .before .before .eight .ensures) (c .if3 .left)) (ap (λ (n : ℕ). leb n (length (a .store .now))) (c .before .before .eight .ensures))
 
 pub inbox-ok-spec : {M : Type 1} → statement M
 inbox-ok-spec =

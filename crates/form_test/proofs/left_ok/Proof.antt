@@ -1,5 +1,5 @@
 -- Nothing waits, or what does is longer than what is given of it.
-use Rattle.grammar.proofs.Basics.{told, told-not}
+use Rattle.grammar.proofs.Basics.{not-told, told-not}
 use Rattle.session_memory.specs.State.{loadOf, loadSay}
 use Rattle.form_test.proofs.Laws.{quiet-left, pos-left}
 use borrow.Author.Needs.{needs}
@@ -20,7 +20,7 @@ is-left-requires c κs = search needs
 
 returns-2 : tie.Need-returns-2
 unfolding loadOf loadSay
-returns-2 c = let a = c .before .before .before .before .before .before .before .before .before .args in pos-left (loadOf (a .sm .now)) (a .table .now) (a .titles .now) (a .names .now) (a .bodies .now) (told (c .before .before .before .is-waiting .ensures) (c .before .before .if1 .left)) (c .before .eight .ensures) (c .is-left .ensures)
+returns-2 c = let a = c .before .before .before .before .before .before .before .before .before .args in pos-left (loadOf (a .sm .now)) (a .table .now) (a .titles .now) (a .names .now) (a .bodies .now) (not-told (c .before .before .before .is-waiting .ensures) (c .before .before .if1 .left)) (c .before .eight .ensures) (c .is-left .ensures)
 
 pub left-ok-spec : {M : Type 1} → statement M
 left-ok-spec =

@@ -7,10 +7,10 @@ use Rattle.form_test.specs.Form.{usedFrom, roundLength}
 use Rattle.form_test.proofs.Laws.{rounds-used, all-used}
 use Rattle.form_test.proofs.used_by.Statement.{statement}
 use Rattle.form_test.proofs.used_by.Tie as tie
-use Rattle.grammar.specs.Fields.{bodyLimit}
+use Rattle.grammar.specs.Fields.{bodyMax}
 
 abbrev Inv-loop : tie.InvT-loop
-Inv-loop inbox n rounds total₀ k₀ total k = (k ≤ rounds) × (rounds ≡ n / roundLength) × (total ≤ bodyLimit * (roundLength * k)) × (total ≡ usedFrom inbox 0 (roundLength * k))
+Inv-loop inbox n rounds total₀ k₀ total k = (k ≤ rounds) × (rounds ≡ n / roundLength) × (total ≤ bodyMax * (roundLength * k)) × (total ≡ usedFrom inbox 0 (roundLength * k))
 
 abbrev μ-loop : tie.MeasureT-loop
 μ-loop inbox n rounds total₀ k₀ total k = rounds - k

@@ -1,6 +1,6 @@
 -- What sign_of says decides; the place goes to that sign's.
 use mathlib.Core.Path.{refl, sym, ap, _∙_}
-use Rattle.fs_line.specs.Answers.{signIs}
+use Rattle.fs_line.specs.Answers.{signMeant}
 use Rattle.fs_effect.proofs.Laws.{by-sign}
 use borrow.Author.Needs.{needs}
 use Rattle.fs_effect.proofs.answered_by.Statement.{statement}
@@ -31,16 +31,16 @@ enum-told-4 : tie.Need-enum-told-4
 enum-told-4 c = search needs
 
 returns : tie.Need-returns
-returns c = by-sign _ _ _ (ap signIs (sym (c .before .enum-told .given .1)) ∙ c .before .before .before .sign-of .ensures .0) (rw (c .add .ensures))
+returns c = by-sign _ _ _ (ap signMeant (sym (c .before .enum-told .given .1)) ∙ c .before .before .before .sign-of .ensures .0) (rw (c .add .ensures))
 
 returns-2 : tie.Need-returns-2
-returns-2 c = by-sign _ _ _ (ap signIs (sym (c .before .enum-told2 .given .1)) ∙ c .before .before .before .sign-of .ensures .0) (rw (c .add2 .ensures))
+returns-2 c = by-sign _ _ _ (ap signMeant (sym (c .before .enum-told2 .given .1)) ∙ c .before .before .before .sign-of .ensures .0) (rw (c .add2 .ensures))
 
 returns-3 : tie.Need-returns-3
-returns-3 c = by-sign _ _ _ (ap signIs (sym (c .before .enum-told3 .given .1)) ∙ c .before .before .before .sign-of .ensures .0) (rw (c .add3 .ensures))
+returns-3 c = by-sign _ _ _ (ap signMeant (sym (c .before .enum-told3 .given .1)) ∙ c .before .before .before .sign-of .ensures .0) (rw (c .add3 .ensures))
 
 returns-4 : tie.Need-returns-4
-returns-4 c = by-sign _ _ _ (ap signIs (sym (c .enum-told4 .given .1)) ∙ c .before .before .sign-of .ensures .0) refl
+returns-4 c = by-sign _ _ _ (ap signMeant (sym (c .enum-told4 .given .1)) ∙ c .before .before .sign-of .ensures .0) refl
 
 pub answered-by-spec : {M : Type 1} → statement M
 answered-by-spec =

@@ -5,19 +5,19 @@ use lib.ListN.{length}
 use borrow.Author.Needs.{needs}
 use borrow.Author.Tests.{not-true, not-false}
 use Rattle.grammar.proofs.Basics.{to-end}
-use Rattle.fs_line.proofs.Laws.{Read, read-start, read-stop, read-more, read-over, read-end, within}
+use Rattle.fs_line.proofs.Laws.{SignsRead, signs-read-start, read-stop, read-more, read-over, read-end, within-left}
 use Rattle.fs_line.proofs.read_signs.Statement.{statement}
 use Rattle.fs_line.proofs.read_signs.Tie as tie
 use Rattle.grammar.specs.Turns.{blockLimit}
 
 abbrev Inv-loop : tie.InvT-loop
-Inv-loop s n level signs₀ at₀ i₀ signs at i = (i ≤ n) × (at ≤ length s) × (length signs ≡ blockLimit) × Read level n s signs at i
+Inv-loop s n level signs₀ at₀ i₀ signs at i = (i ≤ n) × (at ≤ length s) × (length signs ≡ blockLimit) × SignsRead level n s signs at i
 
 abbrev μ-loop : tie.MeasureT-loop
 μ-loop s n level signs₀ at₀ i₀ signs at i = n - i
 
 loop-holds : tie.Need-loop-holds Inv-loop μ-loop
-loop-holds c = (search needs, search needs, search needs, read-start _ _ _)
+loop-holds c = (search needs, search needs, search needs, signs-read-start _ _ _)
 
 sub-sign-at : tie.Need-sub-sign-at Inv-loop μ-loop
 sub-sign-at c = search needs
@@ -45,7 +45,7 @@ array-write-signs : tie.Need-array-write-signs Inv-loop μ-loop
 array-write-signs c = search needs
 
 add-at : tie.Need-add-at Inv-loop μ-loop
-add-at c = let h = within (c .before .before .before .before .before .before .before .before .args .s .now) (c .before .before .before .before .before .before .loop .at) _ (c .before .before .before .before .before .before .loop .inv .1) (c .before .before .before .sign-at .ensures .1) in search needs
+add-at c = let h = within-left (c .before .before .before .before .before .before .before .before .args .s .now) (c .before .before .before .before .before .before .loop .at) _ (c .before .before .before .before .before .before .loop .inv .1) (c .before .before .before .sign-at .ensures .1) in search needs
 
 add-i : tie.Need-add-i Inv-loop μ-loop
 add-i c = search needs
@@ -55,7 +55,7 @@ loop-less c = search needs
 
 loop-again : tie.Need-loop-again Inv-loop μ-loop
 loop-again c = let a = c .before .before .before .before .before .before .before .before .args in let l = c .before .before .before .before .before .before .loop in
-    (search needs, within (a .s .now) (l .at) _ (l .inv .1) (c .before .before .before .sign-at .ensures .1), search needs, read-more (a .level) (a .n) (a .s .now) (l .signs) (l .at) (l .i) (l .inv .3) (c .before .before .before .before .before .loop-test .taken) _ _ _ (to-end (a .s .now) (l .at)) (c .before .before .before .sign-at .ensures .0) (c .before .before .before .before .before .before .before .before .pre) (sym (c .before .before .is-sign .ensures) ∙ not-false _ (c .before .if1 .left)))
+    (search needs, within-left (a .s .now) (l .at) _ (l .inv .1) (c .before .before .before .sign-at .ensures .1), search needs, read-more (a .level) (a .n) (a .s .now) (l .signs) (l .at) (l .i) (l .inv .3) (c .before .before .before .before .before .loop-test .taken) _ _ _ (to-end (a .s .now) (l .at)) (c .before .before .before .sign-at .ensures .0) (c .before .before .before .before .before .before .before .before .pre) (sym (c .before .before .is-sign .ensures) ∙ not-false _ (c .before .if1 .left)))
 
 refused-requires-2 : tie.Need-refused-requires-2 Inv-loop μ-loop
 refused-requires-2 c κs = search needs

@@ -2,7 +2,7 @@
 use mathlib.Core.Path.{sym, _∙_}
 use borrow.Author.Needs.{needs}
 use borrow.Author.Tests.{not-true, not-false}
-use Rattle.fs_line.proofs.Laws.{nothing-there, one-byte, no-sign-low, no-offset, part-digits, offset-here, within}
+use Rattle.fs_line.proofs.Laws.{nothing-there, one-byte, no-sign-low, no-offset, part-digits, offset-here, within-left}
 use Rattle.fs_line.proofs.sign_at.Statement.{statement}
 use Rattle.fs_line.proofs.sign_at.Tie as tie
 
@@ -46,7 +46,7 @@ digit-count-requires : tie.Need-digit-count-requires
 digit-count-requires c κs = search needs
 
 add-end : tie.Need-add-end
-add-end c = let h = within (c .before .before .before .before .before .before .before .before .before .before .before .args .s .now) 1 _ (c .before .before .before .before .before .before .before .before .before .if1 .left) (c .digit-count .ensures .1) in search needs
+add-end c = let h = within-left (c .before .before .before .before .before .before .before .before .before .before .before .args .s .now) 1 _ (c .before .before .before .before .before .before .before .before .before .if1 .left) (c .digit-count .ensures .1) in search needs
 
 sub-offset-sign : tie.Need-sub-offset-sign
 sub-offset-sign c = search needs
@@ -55,14 +55,14 @@ part-offset-sign-start : tie.Need-part-offset-sign-start
 part-offset-sign-start c = search needs
 
 part-offset-sign-end : tie.Need-part-offset-sign-end
-part-offset-sign-end c = within (c .before .before .before .before .before .before .before .before .before .before .before .args .s .now) 1 _ (c .before .before .before .before .before .before .before .before .before .if1 .left) (c .digit-count .ensures .1)
+part-offset-sign-end c = within-left (c .before .before .before .before .before .before .before .before .before .before .before .args .s .now) 1 _ (c .before .before .before .before .before .before .before .before .before .if1 .left) (c .digit-count .ensures .1)
 
 offset-sign-requires : tie.Need-offset-sign-requires
 offset-sign-requires c κs = part-digits (c .before .before .before .before .before .before .before .before .before .before .before .before .args .s .now) (c .before .before .before .before .before .before .before .before .before .before .if1 .left) _ (c .before .digit-count .ensures .0)
 
 returns-5 : tie.Need-returns-5
 returns-5 c = let a = c .before .before .before .before .before .before .before .before .before .before .before .before .before .args in
-    (offset-here (a .s .now) (c .before .before .before .before .before .before .before .before .before .before .before .if1 .left) _ (c .before .before .digit-count .ensures .0) (a .level) _ (c .before .before .before .before .before .before .before .before .before .sign-byte .ensures) (sym (c .before .before .before .before .before .before .before .before .is-sign .ensures) ∙ c .before .before .before .before .before .before .before .if2 .left) (c .before .before .before .before .before .before .if3 .left) (sym (c .before .before .before .before .before .is-offset .ensures) ∙ not-false _ (c .before .before .before .before .if4 .left)) _ (c .offset-sign .ensures), within (a .s .now) 1 _ (c .before .before .before .before .before .before .before .before .before .before .before .if1 .left) (c .before .before .digit-count .ensures .1))
+    (offset-here (a .s .now) (c .before .before .before .before .before .before .before .before .before .before .before .if1 .left) _ (c .before .before .digit-count .ensures .0) (a .level) _ (c .before .before .before .before .before .before .before .before .before .sign-byte .ensures) (sym (c .before .before .before .before .before .before .before .before .is-sign .ensures) ∙ c .before .before .before .before .before .before .before .if2 .left) (c .before .before .before .before .before .before .if3 .left) (sym (c .before .before .before .before .before .is-offset .ensures) ∙ not-false _ (c .before .before .before .before .if4 .left)) _ (c .offset-sign .ensures), within-left (a .s .now) 1 _ (c .before .before .before .before .before .before .before .before .before .before .before .if1 .left) (c .before .before .digit-count .ensures .1))
 
 pub sign-at-spec : {M : Type 1} → statement M
 sign-at-spec =

@@ -11,23 +11,23 @@ slice-read-first c = search needs
 slice-read-then : tie.Need-slice-read-then
 slice-read-then c = search needs
 
-put-say-requires : tie.Need-put-say-requires
-put-say-requires c κs = search needs
+put-pieces-requires : tie.Need-put-pieces-requires
+put-pieces-requires c κs = search needs
 
 same-length : tie.Need-same-length
 same-length c = search needs
 
 returns : tie.Need-returns
-returns c = let a = c .before .before .before .before .before .before .before .before .args in keep-some (a .sm .now) (c .before .before .before .before .before .before .before .before .pre) (a .pos) refl refl (c .before .before .put-say .ensures) (c .before .before .before .before .before .before .if1 .taken)
+returns c = let a = c .before .before .before .before .before .before .before .before .args in keep-some (a .sm .now) (c .before .before .before .before .before .before .before .before .pre) (a .pos) refl refl (c .before .before .put-pieces .ensures) (c .before .before .before .before .before .before .if1 .taken)
 
-put-say-requires-2 : tie.Need-put-say-requires-2
-put-say-requires-2 c κs = search needs
+put-pieces-requires-2 : tie.Need-put-pieces-requires-2
+put-pieces-requires-2 c κs = search needs
 
 same-length-2 : tie.Need-same-length-2
 same-length-2 c = search needs
 
 returns-2 : tie.Need-returns-2
-returns-2 c = let a = c .before .before .before .before .before .before .args in keep-none (a .sm .now) (c .before .before .before .before .before .before .pre) (a .pos) (c .before .before .put-say2 .ensures) (c .before .before .before .before .if1 .left)
+returns-2 c = let a = c .before .before .before .before .before .before .args in keep-none (a .sm .now) (c .before .before .before .before .before .before .pre) (a .pos) (c .before .before .put-pieces2 .ensures) (c .before .before .before .before .if1 .left)
 
 pub keep-spec : {M : Type 1} → statement M
 keep-spec =
@@ -35,9 +35,9 @@ keep-spec =
     (tie.spec
     slice-read-first
     slice-read-then
-    put-say-requires
+    put-pieces-requires
     same-length
     returns
-    put-say-requires-2
+    put-pieces-requires-2
     same-length-2
     returns-2)

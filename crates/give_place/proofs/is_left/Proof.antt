@@ -6,14 +6,14 @@ use lib.Dec.{ltb}
 use lib.ListN.{length, drop}
 use borrow.Author.Needs.{needs}
 use Rattle.session_memory.specs.State.{loadOf}
-use Rattle.waiting.specs.Pieces.{joined, piecesOf}
+use Rattle.waiting.specs.Pieces.{piecesJoined, piecesOf}
 use Rattle.give_place.proofs.Laws.{in-piece, past-piece, past-all}
 use Rattle.give_place.proofs.is_left.Statement.{statement}
 use Rattle.give_place.proofs.is_left.Tie as tie
 
 abbrev Inv-loop : tie.InvT-loop
 Inv-loop from offset sm table titles names bodies n p₀ k₀ p k =
-    ltb offset (length (joined (drop from (piecesOf (loadOf sm) table titles names bodies)))) ≡ ltb p (length (joined (drop k (piecesOf (loadOf sm) table titles names bodies))))
+    ltb offset (length (piecesJoined (drop from (piecesOf (loadOf sm) table titles names bodies)))) ≡ ltb p (length (piecesJoined (drop k (piecesOf (loadOf sm) table titles names bodies))))
 
 abbrev μ-loop : tie.MeasureT-loop
 μ-loop from offset sm table titles names bodies n p₀ k₀ p k = n - k

@@ -1,5 +1,5 @@
 -- The 256 bytes fill the array.
-use Rattle.line_byte.proofs.Laws.{copied}
+use Rattle.line_byte.proofs.Laws.{line-copied}
 use borrow.Author.Needs.{needs}
 use Rattle.line_byte.proofs.line_of.Statement.{statement}
 use Rattle.line_byte.proofs.line_of.Tie as tie
@@ -20,7 +20,7 @@ put-whole-requires : tie.Need-put-whole-requires
 put-whole-requires c κs = search needs
 
 returns : tie.Need-returns
-returns c = copied (c .before .before .before .before .before .args .mem .now) _ (c .before .before .before .before .before .pre) (c .before .put-whole .ensures)
+returns c = line-copied (c .before .before .before .before .before .args .mem .now) _ (c .before .before .before .before .before .pre) (c .before .put-whole .ensures)
 
 pub line-of-spec : {M : Type 1} → statement M
 line-of-spec =

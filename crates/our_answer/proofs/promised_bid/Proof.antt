@@ -5,13 +5,13 @@ use lib.ListN.{drop}
 use borrow.Author.Needs.{needs}
 use Rattle.session.specs.Choices.{among, proposalBids}
 use Rattle.session_memory.specs.State.{held}
-use Rattle.our_answer.specs.Promises.{proposalsAt}
+use Rattle.our_answer.specs.Promises.{blockProposals}
 use Rattle.our_answer.proofs.Laws.{promised-more, promised-found, promised-end}
 use Rattle.our_answer.proofs.promised_bid.Statement.{statement}
 use Rattle.our_answer.proofs.promised_bid.Tie as tie
 
 abbrev Inv-loop : tie.InvT-loop
-Inv-loop block bid places n j₀ j = (j ≤ n) × (among bid (proposalBids (proposalsAt block (held places))) ≡ among bid (proposalBids (proposalsAt block (drop j (held places)))))
+Inv-loop block bid places n j₀ j = (j ≤ n) × (among bid (proposalBids (blockProposals block (held places))) ≡ among bid (proposalBids (blockProposals block (drop j (held places)))))
 
 abbrev μ-loop : tie.MeasureT-loop
 μ-loop block bid places n j₀ j = n - j

@@ -1,5 +1,5 @@
 use borrow.Author.Needs.{needs}
-use Rattle.page_line.proofs.Laws.{letter-v, letter-m, letter-other}
+use Rattle.page_line.proofs.Laws.{letter-v, letter-m, flag-letter-other}
 use Rattle.page_line.proofs.by_letter.Statement.{statement}
 use Rattle.page_line.proofs.by_letter.Tie as tie
 
@@ -19,7 +19,7 @@ returns-2 : tie.Need-returns-2
 returns-2 c = letter-m (c .before .before .before .before .before .args .line .now) (c .member-page .result) (c .before .before .if1 .left) (c .before .if2 .taken) (c .member-page .ensures)
 
 returns-3 : tie.Need-returns-3
-returns-3 c = (letter-other (c .before .before .before .before .args .line .now) (c .before .if1 .left) (c .if2 .left), tt)
+returns-3 c = (flag-letter-other (c .before .before .before .before .args .line .now) (c .before .if1 .left) (c .if2 .left), tt)
 
 pub by-letter-spec : {M : Type 1} → statement M
 by-letter-spec =

@@ -1,7 +1,7 @@
 -- A sixth is refused; else the block gets it, its form by its number.
 use borrow.Author.Tests.{le-ltb}
 use Rattle.numbers.specs.Whole.{withBlock, sessionOf}
-use Rattle.line_effect.specs.Judge.{proposalLine}
+use Rattle.line_effect.specs.Judge.{proposalTaken}
 use Rattle.partner_turn.proofs.Laws.{proposed}
 use borrow.Author.Needs.{needs}
 use Rattle.partner_turn.proofs.proposal_line.Statement.{statement}
@@ -11,7 +11,7 @@ refusal-requires : tie.Need-refusal-requires
 refusal-requires c κs = search needs
 
 returns : tie.Need-returns
-unfolding proposalLine
+unfolding proposalTaken
 returns c = λ x. rw (le-ltb _ _ (c .before .if1 .taken)) (c .refusal .ensures (withBlock (c .before .before .before .before .before .args .block .now) x))
 
 cast-n : tie.Need-cast-n

@@ -1,20 +1,20 @@
--- Invariant: the first i words of the line are those of the first i spans, the others come from `place` on (`Read`). Measure: the words missing to seven.
+-- Invariant: the first i words of the line are those of the first i spans, the others come from `place` on (`WordsRead`). Measure: the words missing to seven.
 use Prim.Native.Nat.{_-_}
 use mathlib.Core.Path.{refl}
 use borrow.Author.Needs.{needs}
-use Rattle.proposal.proofs.Laws.{Read, read-start, read-more, read-few, read-many, read-seven}
+use Rattle.proposal.proofs.Laws.{WordsRead, words-read-start, read-more, read-few, read-many, read-seven}
 use Rattle.proposal.proofs.seven_words.Statement.{statement}
 use Rattle.proposal.proofs.seven_words.Tie as tie
 use Rattle.proposal.specs.Meaning.{fieldCount}
 
 abbrev Inv-loop : tie.InvT-loop
-Inv-loop line w₀ place₀ i₀ w place i = Read line w place i
+Inv-loop line w₀ place₀ i₀ w place i = WordsRead line w place i
 
 abbrev μ-loop : tie.MeasureT-loop
 μ-loop line w₀ place₀ i₀ w place i = fieldCount - i
 
 loop-holds : tie.Need-loop-holds Inv-loop μ-loop
-loop-holds c = read-start _ _ refl
+loop-holds c = words-read-start _ _ refl
 
 field-by-reader-requires : tie.Need-field-by-reader-requires Inv-loop μ-loop
 field-by-reader-requires c κs = search needs

@@ -82,8 +82,8 @@ returns-3 c =
     let q = not-false _ (c .before .before .before .before .before .before .if1 .left) in
     receive-none (a .sm .now) (a .table .now) (a .titles .now) (a .names .now) (a .bodies .now) (a .known .now) (a .inbox .now) (a .store .now) (a .bytes .now) f q (c .before .before .before .before .load .ensures) (c .before .before .before .is-over .ensures) (c .before .before .if2 .left) (c .before .if3 .taken) (c .reply3 .ensures)
 
-take-requires : tie.Need-take-requires
-take-requires c κs =
+take-run-requires : tie.Need-take-run-requires
+take-run-requires c κs =
     let a = c .before .before .before .before .before .before .before .before .before .before .before .before .before .before .before .before .before .before .before .before .before .before .args in
     let f = c .before .before .before .before .before .before .before .before .form .ensures in
     let q = not-false _ (c .before .before .before .before .before .before .before .if1 .left) in
@@ -110,7 +110,7 @@ returns-4 c =
     let a = c .before .before .before .before .before .before .before .before .before .before .before .before .before .before .before .before .before .before .before .before .before .before .before .before .before .before .before .before .before .args in
     let f = c .before .before .before .before .before .before .before .before .before .before .before .before .before .before .before .form .ensures in
     let q = not-false _ (c .before .before .before .before .before .before .before .before .before .before .before .before .before .before .if1 .left) in
-    receive-run (a .sm .now) (a .table .now) (a .titles .now) (a .names .now) (a .bodies .now) (a .known .now) (a .inbox .now) (a .store .now) (a .bytes .now) f q (c .before .before .before .before .before .before .before .before .before .before .before .before .load .ensures) (c .before .before .before .before .before .before .before .before .before .before .before .is-over .ensures) (c .before .before .before .before .before .before .before .before .before .before .if2 .left) (c .before .before .before .before .before .before .before .before .before .if3 .left) (c .before .before .before .before .before .before .take .result) (c .before .before .before .before .before .before .take .last .1 .1 .0) (c .before .before .before .before .before .before .take .last .1 .1 .1 .0) (c .before .before .before .before .before .before .take .ensures) (c .before .if4 .taken) (c .reply4 .ensures)
+    receive-run (a .sm .now) (a .table .now) (a .titles .now) (a .names .now) (a .bodies .now) (a .known .now) (a .inbox .now) (a .store .now) (a .bytes .now) f q (c .before .before .before .before .before .before .before .before .before .before .before .before .load .ensures) (c .before .before .before .before .before .before .before .before .before .before .before .is-over .ensures) (c .before .before .before .before .before .before .before .before .before .before .if2 .left) (c .before .before .before .before .before .before .before .before .before .if3 .left) (c .before .before .before .before .before .before .take-run .result) (c .before .before .before .before .before .before .take-run .last .1 .1 .0) (c .before .before .before .before .before .before .take-run .last .1 .1 .1 .0) (c .before .before .before .before .before .before .take-run .ensures) (c .before .if4 .taken) (c .reply4 .ensures)
 
 load-requires-2 : tie.Need-load-requires-2
 load-requires-2 c κs =
@@ -118,7 +118,7 @@ load-requires-2 c κs =
     let f = c .before .before .before .before .before .before .before .before .before .before .before .before .before .before .before .form .ensures in
     let q = not-false _ (c .before .before .before .before .before .before .before .before .before .before .before .before .before .before .if1 .left) in
     let v = receive-live (a .sm .now) (a .table .now) (a .titles .now) (a .names .now) (a .bodies .now) (a .known .now) (a .inbox .now) (a .store .now) (a .bytes .now) f q (c .before .before .before .before .before .before .before .before .before .before .before .before .load .ensures) (c .before .before .before .before .before .before .before .before .before .before .before .is-over .ensures) (c .before .before .before .before .before .before .before .before .before .before .if2 .left) (c .before .before .before .before .before .before .before .before .before .if3 .left) in
-    (still-live (a .sm .now) (a .table .now) (a .titles .now) (a .names .now) (a .bodies .now) (a .known .now) (a .inbox .now) (a .store .now) (a .bytes .now) f q (c .before .before .before .before .before .before .take .result) (c .before .before .before .before .before .before .take .last .1 .1 .0) (c .before .before .before .before .before .before .take .last .1 .1 .1 .0) (c .before .before .before .before .before .before .take .ensures) (c .before .if4 .left) v) .size
+    (still-live (a .sm .now) (a .table .now) (a .titles .now) (a .names .now) (a .bodies .now) (a .known .now) (a .inbox .now) (a .store .now) (a .bytes .now) f q (c .before .before .before .before .before .before .take-run .result) (c .before .before .before .before .before .before .take-run .last .1 .1 .0) (c .before .before .before .before .before .before .take-run .last .1 .1 .1 .0) (c .before .before .before .before .before .before .take-run .ensures) (c .before .if4 .left) v) .size
 
 take-all-requires : tie.Need-take-all-requires
 take-all-requires c κs =
@@ -126,7 +126,7 @@ take-all-requires c κs =
     let f = c .before .before .before .before .before .before .before .before .before .before .before .before .before .before .before .before .before .before .before .before .form .ensures in
     let q = not-false _ (c .before .before .before .before .before .before .before .before .before .before .before .before .before .before .before .before .before .before .before .if1 .left) in
     let v = receive-live (a .sm .now) (a .table .now) (a .titles .now) (a .names .now) (a .bodies .now) (a .known .now) (a .inbox .now) (a .store .now) (a .bytes .now) f q (c .before .before .before .before .before .before .before .before .before .before .before .before .before .before .before .before .before .load .ensures) (c .before .before .before .before .before .before .before .before .before .before .before .before .before .before .before .before .is-over .ensures) (c .before .before .before .before .before .before .before .before .before .before .before .before .before .before .before .if2 .left) (c .before .before .before .before .before .before .before .before .before .before .before .before .before .before .if3 .left) in
-    (again-live (a .sm .now) (a .table .now) (a .titles .now) (a .names .now) (a .bodies .now) (a .known .now) (a .inbox .now) (a .store .now) (a .bytes .now) f q (c .before .before .before .before .before .before .before .before .before .before .before .take .result) (c .before .before .before .before .before .before .before .before .before .before .before .take .last .1 .1 .0) (c .before .before .before .before .before .before .before .before .before .before .before .take .last .1 .1 .1 .0) (c .before .before .before .before .before .before .before .before .before .before .before .take .ensures) (c .before .before .before .before .before .before .if4 .left) v (c .before .before .before .before .load2 .ensures), still-sound (a .sm .now) (a .table .now) (a .titles .now) (a .names .now) (a .bodies .now) (a .known .now) (a .inbox .now) (a .store .now) (a .bytes .now) f q (c .before .before .before .before .before .before .before .before .before .before .before .take .result) (c .before .before .before .before .before .before .before .before .before .before .before .take .last .1 .1 .0) (c .before .before .before .before .before .before .before .before .before .before .before .take .last .1 .1 .1 .0) (c .before .before .before .before .before .before .before .before .before .before .before .take .ensures) (c .before .before .before .before .before .before .if4 .left) (receive-sound (a .sm .now) (a .table .now) (a .titles .now) (a .names .now) (a .bodies .now) (a .known .now) (a .inbox .now) (a .store .now) (a .bytes .now) f q (octets-of (a .sm .now) (λ i. (c .before .before .before .before .before .before .before .before .before .before .before .before .before .before .before .before .before .before .before .before .before .before .before .before .before .before .before .before .before .before .before .before .before .slice-known .given i) .fits)) (octets-of (a .table .now) (λ i. (c .before .before .before .before .before .before .before .before .before .before .before .before .before .before .before .before .before .before .before .before .before .before .before .before .before .before .before .before .before .before .before .before .slice-known2 .given i) .fits)) (octets-of (a .inbox .now) (λ i. (c .before .before .before .before .before .before .before .before .before .before .before .before .before .before .before .before .before .before .before .before .before .before .before .before .before .before .before .slice-known3 .given i) .fits)) (octets-of (a .store .now) (λ i. (c .before .before .before .before .before .before .before .before .before .before .before .before .before .before .before .before .before .before .before .before .before .before .before .before .before .before .slice-known4 .given i) .fits))))
+    (again-live (a .sm .now) (a .table .now) (a .titles .now) (a .names .now) (a .bodies .now) (a .known .now) (a .inbox .now) (a .store .now) (a .bytes .now) f q (c .before .before .before .before .before .before .before .before .before .before .before .take-run .result) (c .before .before .before .before .before .before .before .before .before .before .before .take-run .last .1 .1 .0) (c .before .before .before .before .before .before .before .before .before .before .before .take-run .last .1 .1 .1 .0) (c .before .before .before .before .before .before .before .before .before .before .before .take-run .ensures) (c .before .before .before .before .before .before .if4 .left) v (c .before .before .before .before .load2 .ensures), still-sound (a .sm .now) (a .table .now) (a .titles .now) (a .names .now) (a .bodies .now) (a .known .now) (a .inbox .now) (a .store .now) (a .bytes .now) f q (c .before .before .before .before .before .before .before .before .before .before .before .take-run .result) (c .before .before .before .before .before .before .before .before .before .before .before .take-run .last .1 .1 .0) (c .before .before .before .before .before .before .before .before .before .before .before .take-run .last .1 .1 .1 .0) (c .before .before .before .before .before .before .before .before .before .before .before .take-run .ensures) (c .before .before .before .before .before .before .if4 .left) (receive-sound (a .sm .now) (a .table .now) (a .titles .now) (a .names .now) (a .bodies .now) (a .known .now) (a .inbox .now) (a .store .now) (a .bytes .now) f q (octets-of (a .sm .now) (λ i. (c .before .before .before .before .before .before .before .before .before .before .before .before .before .before .before .before .before .before .before .before .before .before .before .before .before .before .before .before .before .before .before .before .before .slice-known .given i) .fits)) (octets-of (a .table .now) (λ i. (c .before .before .before .before .before .before .before .before .before .before .before .before .before .before .before .before .before .before .before .before .before .before .before .before .before .before .before .before .before .before .before .before .slice-known2 .given i) .fits)) (octets-of (a .inbox .now) (λ i. (c .before .before .before .before .before .before .before .before .before .before .before .before .before .before .before .before .before .before .before .before .before .before .before .before .before .before .before .slice-known3 .given i) .fits)) (octets-of (a .store .now) (λ i. (c .before .before .before .before .before .before .before .before .before .before .before .before .before .before .before .before .before .before .before .before .before .before .before .before .before .before .slice-known4 .given i) .fits))))
 
 same-length-17 : tie.Need-same-length-17
 same-length-17 c = search needs
@@ -145,7 +145,7 @@ returns-5 c =
     let a = c .before .before .before .before .before .before .before .before .before .before .before .before .before .before .before .before .before .before .before .before .before .before .before .before .before .before .before .before .before .before .before .before .before .before .before .before .before .before .before .before .before .before .before .args in
     let f = c .before .before .before .before .before .before .before .before .before .before .before .before .before .before .before .before .before .before .before .before .before .before .before .before .before .before .before .before .before .form .ensures in
     let q = not-false _ (c .before .before .before .before .before .before .before .before .before .before .before .before .before .before .before .before .before .before .before .before .before .before .before .before .before .before .before .before .if1 .left) in
-    receive-saved (a .sm .now) (a .table .now) (a .titles .now) (a .names .now) (a .bodies .now) (a .known .now) (a .inbox .now) (a .store .now) (a .bytes .now) f q (c .before .before .before .before .before .before .before .before .before .before .before .before .before .before .before .before .before .before .before .before .before .before .before .before .before .before .load .ensures) (c .before .before .before .before .before .before .before .before .before .before .before .before .before .before .before .before .before .before .before .before .before .before .before .before .before .is-over .ensures) (c .before .before .before .before .before .before .before .before .before .before .before .before .before .before .before .before .before .before .before .before .before .before .before .before .if2 .left) (c .before .before .before .before .before .before .before .before .before .before .before .before .before .before .before .before .before .before .before .before .before .before .before .if3 .left) (still-saved (a .sm .now) (a .table .now) (a .titles .now) (a .names .now) (a .bodies .now) (a .known .now) (a .inbox .now) (a .store .now) (a .bytes .now) f q (c .before .before .before .before .before .before .before .before .before .before .before .before .before .before .before .before .before .before .before .before .take .result) (c .before .before .before .before .before .before .before .before .before .before .before .before .before .before .before .before .before .before .before .before .take .last .1 .1 .0) (c .before .before .before .before .before .before .before .before .before .before .before .before .before .before .before .before .before .before .before .before .take .last .1 .1 .1 .0) (c .before .before .before .before .before .before .before .before .before .before .before .before .before .before .before .before .before .before .before .before .take .ensures) (c .before .before .before .before .before .before .before .before .before .before .before .before .before .before .before .if4 .left) (c .before .before .before .before .before .before .before .before .take-all .ensures))
+    receive-saved (a .sm .now) (a .table .now) (a .titles .now) (a .names .now) (a .bodies .now) (a .known .now) (a .inbox .now) (a .store .now) (a .bytes .now) f q (c .before .before .before .before .before .before .before .before .before .before .before .before .before .before .before .before .before .before .before .before .before .before .before .before .before .before .load .ensures) (c .before .before .before .before .before .before .before .before .before .before .before .before .before .before .before .before .before .before .before .before .before .before .before .before .before .is-over .ensures) (c .before .before .before .before .before .before .before .before .before .before .before .before .before .before .before .before .before .before .before .before .before .before .before .before .if2 .left) (c .before .before .before .before .before .before .before .before .before .before .before .before .before .before .before .before .before .before .before .before .before .before .before .if3 .left) (still-saved (a .sm .now) (a .table .now) (a .titles .now) (a .names .now) (a .bodies .now) (a .known .now) (a .inbox .now) (a .store .now) (a .bytes .now) f q (c .before .before .before .before .before .before .before .before .before .before .before .before .before .before .before .before .before .before .before .before .take-run .result) (c .before .before .before .before .before .before .before .before .before .before .before .before .before .before .before .before .before .before .before .before .take-run .last .1 .1 .0) (c .before .before .before .before .before .before .before .before .before .before .before .before .before .before .before .before .before .before .before .before .take-run .last .1 .1 .1 .0) (c .before .before .before .before .before .before .before .before .before .before .before .before .before .before .before .before .before .before .before .before .take-run .ensures) (c .before .before .before .before .before .before .before .before .before .before .before .before .before .before .before .if4 .left) (c .before .before .before .before .before .before .before .before .take-all .ensures))
 
 pub receive-spec : {M : Type 1} → statement M
 receive-spec =
@@ -172,7 +172,7 @@ receive-spec =
     same-length-11
     same-length-12
     returns-3
-    take-requires
+    take-run-requires
     reply-requires-4
     same-length-13
     same-length-14

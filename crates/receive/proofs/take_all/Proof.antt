@@ -1,6 +1,6 @@
 -- The arrays' part of session memory is lent; then the numbers are saved.
 use Rattle.region.specs.Region.{region, lent}
-use Rattle.numbers_in_place.proofs.Arrays.{arrays-length}
+use Rattle.numbers_in_place.proofs.Arrays.{arrays-part-length}
 use Rattle.receive.proofs.Laws.{loaded-sound, all-saved}
 use borrow.Author.Needs.{needs}
 use Rattle.receive.proofs.take_all.Statement.{statement}
@@ -20,7 +20,7 @@ unfolding region
 take-bytes-requires c κs =
     let a = c .before .before .before .before .before .before .before .before .before .before .args in
     let p = c .before .before .before .before .before .before .before .before .before .before .pre in
-    (loaded-sound (a .s) (a .sm .now) (a .bytes .now) (p .0) (a .table .now) (a .inbox .now) (a .store .now) (p .1), arrays-length (a .sm .now) (p .0 .size))
+    (loaded-sound (a .s) (a .sm .now) (a .bytes .now) (p .0) (a .table .now) (a .inbox .now) (a .store .now) (p .1), arrays-part-length (a .sm .now) (p .0 .size))
 
 save-requires : tie.Need-save-requires
 save-requires c κs = search needs

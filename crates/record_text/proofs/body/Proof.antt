@@ -4,7 +4,7 @@ use Rattle.record_text.proofs.Laws.{part-read, part-most}
 use borrow.Author.Needs.{needs}
 use Rattle.record_text.proofs.body.Statement.{statement}
 use Rattle.record_text.proofs.body.Tie as tie
-use Rattle.grammar.specs.Fields.{bodyLimit}
+use Rattle.grammar.specs.Fields.{bodyMax}
 
 cast-four : tie.Need-cast-four
 cast-four c = search needs
@@ -29,7 +29,7 @@ part-requires c κs = search needs
 
 returns : tie.Need-returns
 unfolding bodyIn
-returns c = let a = c .before .before .before .before .before .args in (part-read (a .bodies .now) (c .before .before .four .ensures) (c .before .two .ensures) (c .part .ensures), part-most (a .bodies .now) _ bodyLimit (c .part .ensures) (search needs))
+returns c = let a = c .before .before .before .before .before .args in (part-read (a .bodies .now) (c .before .before .four .ensures) (c .before .two .ensures) (c .part .ensures), part-most (a .bodies .now) _ bodyMax (c .part .ensures) (search needs))
 
 pub body-spec : {M : Type 1} → statement M
 body-spec =

@@ -1,12 +1,12 @@
 -- One law for each answer.
 use mathlib.Core.Path.{_∙_}
 use borrow.Author.Needs.{needs}
-use Rattle.route_read.proofs.Laws.{line-short, line-begins, line-slash, no-date, no-time, as-behind}
+use Rattle.route_read.proofs.Laws.{stamp-short, line-begins, line-slash, no-date, no-time, as-behind}
 use Rattle.route_read.proofs.read.Statement.{statement}
 use Rattle.route_read.proofs.read.Tie as tie
 
 returns : tie.Need-returns
-returns c = (line-short (c .before .before .args .line .now) (c .if1 .taken), tt)
+returns c = (stamp-short (c .before .before .args .line .now) (c .if1 .taken), tt)
 
 begins-at-requires : tie.Need-begins-at-requires
 begins-at-requires c κs = search needs

@@ -6,7 +6,7 @@ use lib.ListN.{length}
 use borrow.Author.Needs.{needs}
 use Rattle.grammar.specs.Fields.{writeNum, decimalDigits}
 use Rattle.decimal.proofs.Laws.{digits-left}
-use Rattle.text_length.proofs.Laws.{digits-more, digits-end}
+use Rattle.text_length.proofs.Laws.{digit-count-more, digit-count-end}
 use Rattle.text_length.proofs.digits.Statement.{statement}
 use Rattle.text_length.proofs.digits.Tie as tie
 
@@ -29,13 +29,13 @@ loop-less c = let l = c .before .loop in omega (arith, digits-left (l .rest) (l 
 loop-again : tie.Need-loop-again Inv-loop μ-loop
 loop-again c = let l = c .before .loop in
     let h = digits-left (l .rest) (l .before) (l .inv .1) (c .loop-test .taken) in
-    (omega arith, h .1, digits-more (c .before .before .args .size) (l .rest) (l .before) (h .0) (c .loop-test .taken) (l .inv .2))
+    (omega arith, h .1, digit-count-more (c .before .before .args .size) (l .rest) (l .before) (h .0) (c .loop-test .taken) (l .inv .2))
 
 sub-result : tie.Need-sub-result Inv-loop μ-loop
 sub-result c = search needs
 
 returns : tie.Need-returns Inv-loop μ-loop
-returns c = let l = c .before .loop in (digits-end (c .before .before .args .size) (l .rest) (l .before) (l .inv .0) (c .loop-test .left) (l .inv .2), omega arith)
+returns c = let l = c .before .loop in (digit-count-end (c .before .before .args .size) (l .rest) (l .before) (l .inv .0) (c .loop-test .left) (l .inv .2), omega arith)
 
 pub digits-spec : {M : Type 1} → statement M
 digits-spec =

@@ -5,7 +5,7 @@ use native.Mathlib.Omega.{arith}
 use lib.ListN.{length, drop}
 use borrow.Author.Needs.{needs}
 use Rattle.transfer_read.specs.Straight.{beforeMark}
-use Rattle.transfer_read.proofs.Runs.{mark-more, mark-stop, mark-end}
+use Rattle.transfer_read.proofs.Runs.{mark-more, mark-stop, before-mark-end}
 use Rattle.transfer_read.proofs.before_mark.Statement.{statement}
 use Rattle.transfer_read.proofs.before_mark.Tie as tie
 
@@ -34,7 +34,7 @@ loop-again : tie.Need-loop-again Inv-loop μ-loop
 loop-again c = (search needs, c .before .before .before .loop .inv .1 ∙ mark-more _ _ (c .before .before .loop-test .taken) (c .if1 .left))
 
 returns-2 : tie.Need-returns-2 Inv-loop μ-loop
-returns-2 c = mark-end _ _ (c .loop-test .left) ∙ sym (c .before .loop .inv .1)
+returns-2 c = before-mark-end _ _ (c .loop-test .left) ∙ sym (c .before .loop .inv .1)
 
 pub before-mark-spec : {M : Type 1} → statement M
 before-mark-spec =

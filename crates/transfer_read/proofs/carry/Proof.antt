@@ -1,7 +1,8 @@
 -- The store is what the buffer's writer leaves (Runs, wrote-sets); the sum is a wrapping sum of wrapping sums (block-along).
 use mathlib.Core.Path.{_∙_}
 use native.Mathlib.Omega.{arith}
-use Rattle.transfer_read.proofs.Runs.{wrote-sets, block-along, body-along}
+use Rattle.buffer.proofs.Laws.{wrote-sets}
+use Rattle.transfer_read.proofs.Runs.{block-along, body-along}
 use borrow.Author.Needs.{needs}
 use Rattle.transfer_read.proofs.carry.Statement.{statement}
 use Rattle.transfer_read.proofs.carry.Tie as tie

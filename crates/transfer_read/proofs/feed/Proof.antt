@@ -6,14 +6,14 @@ use native.Mathlib.Omega.{arith}
 use lib.ListN.{length, drop}
 use borrow.Author.Needs.{needs}
 use borrow.Author.Tests.{not-true, not-false}
-use Rattle.transfer_read.specs.Feed.{after, feedOf}
+use Rattle.transfer_read.specs.Feed.{afterBytes, feedOf}
 use Rattle.transfer_read.proofs.Laws.{after-zero, feed-more, feed-stop, feed-end}
 use Rattle.transfer_read.proofs.Runs.{run-within, run-fits, run-block, feed-run}
 use Rattle.transfer_read.proofs.feed.Statement.{statement}
 use Rattle.transfer_read.proofs.feed.Tie as tie
 
 abbrev Inv-loop : tie.InvT-loop
-Inv-loop input heading₀ store₀ room t₀ i₀ heading store t i = (i ≤ length input) × (length heading ≡ length heading₀) × (length store ≡ length store₀) × (feedOf room t₀ input heading₀ store₀ ≡ after i (feedOf room t (drop i input) heading store))
+Inv-loop input heading₀ store₀ room t₀ i₀ heading store t i = (i ≤ length input) × (length heading ≡ length heading₀) × (length store ≡ length store₀) × (feedOf room t₀ input heading₀ store₀ ≡ afterBytes i (feedOf room t (drop i input) heading store))
 
 abbrev μ-loop : tie.MeasureT-loop
 μ-loop input heading₀ store₀ room t₀ i₀ heading store t i = length input - i

@@ -2,7 +2,7 @@
 use borrow.Author.Tests.{eq-eqb, ne-eqb, lt-ltb, le-ltb}
 use Rattle.transfer_step.specs.Step.{headingStep}
 use borrow.Author.Needs.{needs}
-use Rattle.grammar.proofs.Basics.{told, told-not}
+use Rattle.grammar.proofs.Basics.{not-told, told-not}
 use Rattle.transfer_step.proofs.heading.Statement.{statement}
 use Rattle.transfer_step.proofs.heading.Tie as tie
 
@@ -51,7 +51,7 @@ end-requires-4 c κs = search needs
 
 returns-5 : tie.Need-returns-5
 unfolding headingStep
-returns-5 c = rw (ne-eqb _ _ (c .before .before .before .before .before .if1 .left), told (c .before .before .before .before .heading-byte .ensures) (c .before .before .before .if4 .left), le-ltb _ _ (c .before .if5 .taken)) (c .end4 .ensures)
+returns-5 c = rw (ne-eqb _ _ (c .before .before .before .before .before .if1 .left), not-told (c .before .before .before .before .heading-byte .ensures) (c .before .before .before .if4 .left), le-ltb _ _ (c .before .if5 .taken)) (c .end4 .ensures)
 
 add-if6 : tie.Need-add-if6
 add-if6 c = search needs
@@ -64,14 +64,14 @@ on-requires-2 c κs = search needs
 
 returns-6 : tie.Need-returns-6
 unfolding headingStep
-returns-6 c = rw (ne-eqb _ _ (c .before .before .before .before .before .before .before .if1 .left), told (c .before .before .before .before .before .before .heading-byte .ensures) (c .before .before .before .before .before .if4 .left), lt-ltb _ _ (c .before .before .before .if5 .left), lt-ltb _ _ (c .before .before .if6 .taken)) (c .on2 .ensures)
+returns-6 c = rw (ne-eqb _ _ (c .before .before .before .before .before .before .before .if1 .left), not-told (c .before .before .before .before .before .before .heading-byte .ensures) (c .before .before .before .before .before .if4 .left), lt-ltb _ _ (c .before .before .before .if5 .left), lt-ltb _ _ (c .before .before .if6 .taken)) (c .on2 .ensures)
 
 end-requires-5 : tie.Need-end-requires-5
 end-requires-5 c κs = search needs
 
 returns-7 : tie.Need-returns-7
 unfolding headingStep
-returns-7 c = rw (ne-eqb _ _ (c .before .before .before .before .before .before .if1 .left), told (c .before .before .before .before .before .heading-byte .ensures) (c .before .before .before .before .if4 .left), lt-ltb _ _ (c .before .before .if5 .left), le-ltb _ _ (c .before .if6 .left)) (c .end5 .ensures)
+returns-7 c = rw (ne-eqb _ _ (c .before .before .before .before .before .before .if1 .left), not-told (c .before .before .before .before .before .heading-byte .ensures) (c .before .before .before .before .if4 .left), lt-ltb _ _ (c .before .before .if5 .left), le-ltb _ _ (c .before .if6 .left)) (c .end5 .ensures)
 
 pub heading-spec : {M : Type 1} → statement M
 heading-spec =

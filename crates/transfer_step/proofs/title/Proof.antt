@@ -2,7 +2,7 @@
 use borrow.Author.Tests.{eq-eqb, ne-eqb, lt-ltb, le-ltb}
 use Rattle.transfer_step.specs.Step.{titleStep}
 use borrow.Author.Needs.{needs}
-use Rattle.grammar.proofs.Basics.{told, told-not}
+use Rattle.grammar.proofs.Basics.{not-told, told-not}
 use Rattle.transfer_step.proofs.title.Statement.{statement}
 use Rattle.transfer_step.proofs.title.Tie as tie
 
@@ -38,14 +38,14 @@ on-requires-2 c κs = search needs
 
 returns-4 : tie.Need-returns-4
 unfolding titleStep
-returns-4 c = rw (ne-eqb _ _ (c .before .before .before .before .before .before .if1 .left), told (c .before .before .before .before .before .heading-byte .ensures) (c .before .before .before .before .if3 .left), lt-ltb _ _ (c .before .before .if4 .taken)) (c .on2 .ensures)
+returns-4 c = rw (ne-eqb _ _ (c .before .before .before .before .before .before .if1 .left), not-told (c .before .before .before .before .before .heading-byte .ensures) (c .before .before .before .before .if3 .left), lt-ltb _ _ (c .before .before .if4 .taken)) (c .on2 .ensures)
 
 end-requires-3 : tie.Need-end-requires-3
 end-requires-3 c κs = search needs
 
 returns-5 : tie.Need-returns-5
 unfolding titleStep
-returns-5 c = rw (ne-eqb _ _ (c .before .before .before .before .before .if1 .left), told (c .before .before .before .before .heading-byte .ensures) (c .before .before .before .if3 .left), le-ltb _ _ (c .before .if4 .left)) (c .end3 .ensures)
+returns-5 c = rw (ne-eqb _ _ (c .before .before .before .before .before .if1 .left), not-told (c .before .before .before .before .heading-byte .ensures) (c .before .before .before .if3 .left), le-ltb _ _ (c .before .if4 .left)) (c .end3 .ensures)
 
 pub title-spec : {M : Type 1} → statement M
 title-spec =

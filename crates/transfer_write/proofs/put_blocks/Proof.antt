@@ -4,13 +4,13 @@ use Prim.Native.Nat.{_≤_, _-_}
 use mathlib.Core.Path.{_≡_, refl}
 use lib.ListN.{length}
 use borrow.Author.Needs.{needs}
-use Rattle.transfer_write.proofs.Laws.{Left, left-more, left-full, left-end}
+use Rattle.transfer_write.proofs.Laws.{BlocksLeft, left-more, left-full, left-end}
 use Rattle.transfer_write.proofs.put_blocks.Statement.{statement}
 use Rattle.transfer_write.proofs.put_blocks.Tie as tie
 
 abbrev Inv-loop : tie.InvT-loop
 Inv-loop buf₀ body len d₀ i₀ buf d i =
-    (len ≡ length body) × (i ≤ len) × (length buf ≡ length buf₀) × Left buf₀ d₀ body buf d i
+    (len ≡ length body) × (i ≤ len) × (length buf ≡ length buf₀) × BlocksLeft buf₀ d₀ body buf d i
 
 abbrev μ-loop : tie.MeasureT-loop
 μ-loop buf₀ body len d₀ i₀ buf d i = len - i

@@ -7,13 +7,13 @@ use lib.ListN.{length}
 use borrow.Author.Needs.{needs}
 use Rattle.session_memory.specs.State.{loadOf}
 use Rattle.waiting.specs.Pieces.{piecesOf}
-use Rattle.waiting_write.proofs.Laws.{Left, left-more, left-full, left-end}
+use Rattle.waiting_write.proofs.Laws.{PiecesLeft, left-more, left-full, left-end}
 use Rattle.waiting_write.proofs.write_from.Statement.{statement}
 use Rattle.waiting_write.proofs.write_from.Tie as tie
 
 abbrev Inv-loop : tie.InvT-loop
 Inv-loop buf₀ from sm table titles names bodies n d₀ k₀ buf d k =
-    (length buf ≡ length buf₀) × Left (piecesOf (loadOf sm) table titles names bodies) from buf₀ d₀ buf d k
+    (length buf ≡ length buf₀) × PiecesLeft (piecesOf (loadOf sm) table titles names bodies) from buf₀ d₀ buf d k
 
 abbrev μ-loop : tie.MeasureT-loop
 μ-loop buf₀ from sm table titles names bodies n d₀ k₀ buf d k = n - k

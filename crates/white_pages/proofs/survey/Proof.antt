@@ -3,12 +3,12 @@ use borrow.Author.Needs.{needs}
 use Prim.Native.Nat.{_-_}
 use native.Mathlib.Omega.{arith}
 use lib.ListN.{length}
-use Rattle.white_pages.proofs.Laws.{Counted, counted-none, survey-end, line-known, survey-more}
+use Rattle.white_pages.proofs.Laws.{CountedSoFar, counted-none, survey-end, line-known, survey-more}
 use Rattle.white_pages.proofs.survey.Statement.{statement}
 use Rattle.white_pages.proofs.survey.Tie as tie
 
 abbrev Inv-loop : tie.InvT-loop
-Inv-loop mail tally₀ at₀ tally at = Counted mail tally at
+Inv-loop mail tally₀ at₀ tally at = CountedSoFar mail tally at
 
 abbrev μ-loop : tie.MeasureT-loop
 μ-loop mail tally₀ at₀ tally at = length mail - at

@@ -1,7 +1,7 @@
 -- Nothing for a number from 5 on; else the line of that number, counted by the cursor.
 use borrow.Author.Needs.{needs}
 use Rattle.buffer.proofs.Laws.{puts-as}
-use Rattle.words_write.proofs.Laws.{onward, writes, no-line, line-of}
+use Rattle.words_write.proofs.Laws.{not-back, writes, no-line, line-of}
 use Rattle.words_write.proofs.words_write_fixed.Statement.{statement}
 use Rattle.words_write.proofs.words_write_fixed.Tie as tie
 
@@ -15,7 +15,7 @@ write-fixed-requires : tie.Need-write-fixed-requires
 write-fixed-requires c κs = search needs
 
 sub-result : tie.Need-sub-result
-sub-result c = onward _ _ _ (c .before .before .before .write-fixed .ensures)
+sub-result c = not-back _ _ _ (c .before .before .before .write-fixed .ensures)
 
 same-length : tie.Need-same-length
 same-length c = search needs

@@ -1,6 +1,6 @@
 -- What write_framed puts, counted by the cursor.
 use borrow.Author.Needs.{needs}
-use Rattle.words_write.proofs.Laws.{onward, writes}
+use Rattle.words_write.proofs.Laws.{not-back, writes}
 use Rattle.words_write.proofs.words_write_framed.Statement.{statement}
 use Rattle.words_write.proofs.words_write_framed.Tie as tie
 
@@ -8,7 +8,7 @@ write-framed-requires : tie.Need-write-framed-requires
 write-framed-requires c κs = search needs
 
 sub-result : tie.Need-sub-result
-sub-result c = onward _ _ _ (c .before .before .before .write-framed .ensures)
+sub-result c = not-back _ _ _ (c .before .before .before .write-framed .ensures)
 
 same-length : tie.Need-same-length
 same-length c = search needs

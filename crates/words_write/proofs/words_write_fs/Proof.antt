@@ -1,6 +1,6 @@
 -- What write_fs puts, counted by the cursor.
 use borrow.Author.Needs.{needs}
-use Rattle.words_write.proofs.Laws.{onward, writes}
+use Rattle.words_write.proofs.Laws.{not-back, writes}
 use Rattle.words_write.proofs.words_write_fs.Statement.{statement}
 use Rattle.words_write.proofs.words_write_fs.Tie as tie
 
@@ -8,7 +8,7 @@ write-fs-requires : tie.Need-write-fs-requires
 write-fs-requires c κs = search needs
 
 sub-result : tie.Need-sub-result
-sub-result c = onward _ _ _ (c .before .before .before .write-fs .ensures)
+sub-result c = not-back _ _ _ (c .before .before .before .write-fs .ensures)
 
 same-length : tie.Need-same-length
 same-length c = search needs

@@ -1,6 +1,6 @@
 -- What write_plain puts, counted by the cursor.
 use borrow.Author.Needs.{needs}
-use Rattle.words_write.proofs.Laws.{onward, writes}
+use Rattle.words_write.proofs.Laws.{not-back, writes}
 use Rattle.words_write.proofs.words_write_plain.Statement.{statement}
 use Rattle.words_write.proofs.words_write_plain.Tie as tie
 
@@ -8,7 +8,7 @@ write-plain-requires : tie.Need-write-plain-requires
 write-plain-requires c κs = search needs
 
 sub-result : tie.Need-sub-result
-sub-result c = onward _ _ _ (c .before .before .before .write-plain .ensures)
+sub-result c = not-back _ _ _ (c .before .before .before .write-plain .ensures)
 
 same-length : tie.Need-same-length
 same-length c = search needs

@@ -1,6 +1,6 @@
 -- What write_proposal puts, counted by the cursor.
 use borrow.Author.Needs.{needs}
-use Rattle.words_write.proofs.Laws.{onward, writes}
+use Rattle.words_write.proofs.Laws.{not-back, writes}
 use Rattle.words_write.proofs.words_write_proposal.Statement.{statement}
 use Rattle.words_write.proofs.words_write_proposal.Tie as tie
 
@@ -8,7 +8,7 @@ write-proposal-requires : tie.Need-write-proposal-requires
 write-proposal-requires c κs = search needs
 
 sub-result : tie.Need-sub-result
-sub-result c = onward _ _ _ (c .before .before .before .write-proposal .ensures)
+sub-result c = not-back _ _ _ (c .before .before .before .write-proposal .ensures)
 
 same-length : tie.Need-same-length
 same-length c = search needs

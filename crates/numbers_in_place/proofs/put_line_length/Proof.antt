@@ -2,8 +2,8 @@
 use Rattle.numbers_in_place.proofs.Laws.{line-put}
 use lib.ListN.{length-set}
 use borrow.Author.Needs.{needs}
-use Rattle.numbers_in_place.proofs.put_line.Statement.{statement}
-use Rattle.numbers_in_place.proofs.put_line.Tie as tie
+use Rattle.numbers_in_place.proofs.put_line_length.Statement.{statement}
+use Rattle.numbers_in_place.proofs.put_line_length.Tie as tie
 
 slice-read-flag : tie.Need-slice-read-flag
 slice-read-flag c = search needs
@@ -50,8 +50,8 @@ same-length c = search needs
 returns : tie.Need-returns
 returns c = let a = c .before .before .before .before .before .before .args in line-put (a .sm .now) (c .before .before .before .before .before .before .pre) (λ i. (c .before .before .before .before .slice-known2 .given i) .fits) _ _ (c .before .before .before .flag .ensures) (c .before .flag2 .ensures) (a .len) _ (c .bytes2 .ensures)
 
-pub put-line-spec : {M : Type 1} → statement M
-put-line-spec =
+pub put-line-length-spec : {M : Type 1} → statement M
+put-line-length-spec =
     tie.close
     (tie.spec
     slice-read-flag

@@ -1,10 +1,10 @@
 -- What waits after the call open.
 use mathlib.Core.Path.{ap, _∙_}
 use borrow.Author.Needs.{needs}
-use Rattle.called_station.specs.Station.{Answered}
-use Rattle.capture.specs.Playing.{takenOf, startOf}
-use Rattle.capture.proofs.start.Statement.{statement}
-use Rattle.capture.proofs.start.Tie as tie
+use Rattle.called_station.specs.Station.{StationReply}
+use Rattle.capture.specs.Playing.{takenOf, playStartOf}
+use Rattle.capture.proofs.play_start.Statement.{statement}
+use Rattle.capture.proofs.play_start.Tie as tie
 
 open-requires : tie.Need-open-requires
 open-requires c κs = search needs
@@ -25,13 +25,13 @@ same-length-4 : tie.Need-same-length-4
 same-length-4 c = search needs
 
 returns : tie.Need-returns
-unfolding startOf
+unfolding playStartOf
 returns c =
     let a = c .before .before .before .before .before .before .before .before .before .before .before .before .before .before .before .before .before .before .before .before .before .before .before .args in
-    c .before .before .before .before .before .before .before .before .taken .ensures ∙ ap (λ (o : Answered). takenOf (o .answer) (o .station) (a .out .now) 0) (c .before .before .before .before .before .before .before .before .before .before .before .before .before .before .before .«open» .ensures)
+    c .before .before .before .before .before .before .before .before .taken .ensures ∙ ap (λ (o : StationReply). takenOf (o .answer) (o .station) (a .out .now) 0) (c .before .before .before .before .before .before .before .before .before .before .before .before .before .before .before .«open» .ensures)
 
-pub start-spec : {M : Type 1} → statement M
-start-spec =
+pub play-start-spec : {M : Type 1} → statement M
+play-start-spec =
     tie.close
     (tie.spec
     open-requires

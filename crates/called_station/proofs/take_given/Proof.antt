@@ -6,8 +6,8 @@ use borrow.Author.Needs.{needs}
 use Rattle.give.specs.Giving.{Given}
 use Rattle.called_station.specs.Station.{station, sentOf}
 use Rattle.called_station.proofs.Laws.{given-within}
-use Rattle.called_station.proofs.take.Statement.{statement}
-use Rattle.called_station.proofs.take.Tie as tie
+use Rattle.called_station.proofs.take_given.Statement.{statement}
+use Rattle.called_station.proofs.take_given.Tie as tie
 
 slice-aggregate-none : tie.Need-slice-aggregate-none
 slice-aggregate-none c = search needs
@@ -32,7 +32,7 @@ returns c =
     let a = c .before .before .before .before .before .before .before .before .before .before .before .before .before .args in
     ap (λ (g : Given). record { count = a .n + g .reply .count; session = g .sm; out = g .buf }) (c .before .before .before .before .before .give .ensures)
 
-pub take-spec : {M : Type 1} → statement M
-take-spec =
+pub take-given-spec : {M : Type 1} → statement M
+take-given-spec =
     tie.close
     (tie.spec slice-aggregate-none give-requires add-result same-length same-length-2 returns)

@@ -2,8 +2,8 @@
 use borrow.Author.Tests.{eq-eqb, ne-eqb}
 use Rattle.grammar.specs.Fields.{file, formNumber}
 use borrow.Author.Needs.{needs}
-use Rattle.transfer_write.proofs.heading.Statement.{statement}
-use Rattle.transfer_write.proofs.heading.Tie as tie
+use Rattle.transfer_write.proofs.write_heading.Statement.{statement}
+use Rattle.transfer_write.proofs.write_heading.Tie as tie
 
 part-requires : tie.Need-part-requires
 part-requires c κs = search needs
@@ -17,5 +17,5 @@ returns c = simp (eq-eqb _ (formNumber file) (c .before .if1 .taken)) (c .part .
 returns-2 : tie.Need-returns-2
 returns-2 c = simp (ne-eqb _ (formNumber file) (c .before .if1 .left)) (c .part2 .ensures)
 
-pub heading-spec : {M : Type 1} → statement M
-heading-spec = tie.close (tie.spec part-requires part-requires-2 returns returns-2)
+pub write-heading-spec : {M : Type 1} → statement M
+write-heading-spec = tie.close (tie.spec part-requires part-requires-2 returns returns-2)

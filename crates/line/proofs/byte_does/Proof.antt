@@ -7,10 +7,10 @@ use borrow.Author.Tests.{eq-eqb, ne-eqb, lt-ltb, le-ltb}
 use Rattle.grammar.specs.Bytes.{LF}
 use Rattle.grammar.proofs.Basics.{and-false}
 use Rattle.line.proofs.Laws.{no-cr}
-use Rattle.line.proofs.line_byte.Statement.{statement}
-use Rattle.line.proofs.line_byte.Tie as tie
-use Rattle.line.proofs.line_byte.Reads as reads
-use Rattle.line.proofs.line_byte.Lts as lts
+use Rattle.line.proofs.byte_does.Statement.{statement}
+use Rattle.line.proofs.byte_does.Tie as tie
+use Rattle.line.proofs.byte_does.Reads as reads
+use Rattle.line.proofs.byte_does.Lts as lts
 
 returns : tie.Need-returns
 returns c = simp (c .before .if1 .taken, eq-eqb _ _ (c .if2 .taken))
@@ -27,5 +27,5 @@ returns-3 c = rw (kept (c .before .before), ne-eqb _ _ (c .before .if3 .left), l
 returns-4 : tie.Need-returns-4
 returns-4 c = rw (kept (c .before .before), ne-eqb _ _ (c .before .if3 .left), le-ltb _ _ (c .if4 .left))
 
-pub line-byte-spec : {M : Type 1} → statement M
-line-byte-spec = tie.close (tie.spec returns returns-2 returns-3 returns-4)
+pub byte-does-spec : {M : Type 1} → statement M
+byte-does-spec = tie.close (tie.spec returns returns-2 returns-3 returns-4)

@@ -1,8 +1,8 @@
 -- No LF is dropped and nothing waits; then the transfer's run or the line's.
 use mathlib.Core.Path.{_≡_, sym, _∙_}
 use borrow.Author.Needs.{needs}
-use Rattle.byte_run.proofs.take.Statement.{statement}
-use Rattle.byte_run.proofs.take.Tie as tie
+use Rattle.byte_run.proofs.take_run.Statement.{statement}
+use Rattle.byte_run.proofs.take_run.Tie as tie
 
 shared-slice-read-b : tie.Need-shared-slice-read-b
 shared-slice-read-b c = search needs
@@ -40,8 +40,8 @@ same-length-3 c = search needs
 returns-4 : tie.Need-returns-4
 returns-4 c = c .before .before .line-run .ensures _
 
-pub take-spec : {M : Type 1} → statement M
-take-spec =
+pub take-run-spec : {M : Type 1} → statement M
+take-run-spec =
     tie.close
     (tie.spec
     shared-slice-read-b

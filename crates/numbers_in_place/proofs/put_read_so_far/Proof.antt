@@ -2,8 +2,8 @@
 use Rattle.numbers_in_place.proofs.Laws.{reader-put}
 use lib.ListN.{length-set}
 use borrow.Author.Needs.{needs}
-use Rattle.numbers_in_place.proofs.put_reader.Statement.{statement}
-use Rattle.numbers_in_place.proofs.put_reader.Tie as tie
+use Rattle.numbers_in_place.proofs.put_read_so_far.Statement.{statement}
+use Rattle.numbers_in_place.proofs.put_read_so_far.Tie as tie
 
 slice-read-flag : tie.Need-slice-read-flag
 slice-read-flag c = search needs
@@ -107,8 +107,8 @@ same-length c = simp length-set
 returns : tie.Need-returns
 returns c = let a = c .before .before .before .before .before .before .before .before .before .args in reader-put (a .sm .now) (c .before .before .before .before .before .before .before .before .before .pre) (λ i. (c .before .before .before .before .before .before .before .slice-known2 .given i) .fits) _ _ (c .before .before .before .before .before .before .flag .ensures) (c .before .before .before .before .flag2 .ensures) (a .r) _ _ (c .before .before .bytes2 .ensures) (c .bytes4 .ensures)
 
-pub put-reader-spec : {M : Type 1} → statement M
-put-reader-spec =
+pub put-read-so-far-spec : {M : Type 1} → statement M
+put-read-so-far-spec =
     tie.close
     (tie.spec
     slice-read-flag

@@ -1,10 +1,10 @@
 -- What waits after the byte.
 use mathlib.Core.Path.{ap, _∙_}
 use borrow.Author.Needs.{needs}
-use Rattle.called_station.specs.Station.{Answered}
-use Rattle.capture.specs.Playing.{takenOf, stepOf}
-use Rattle.capture.proofs.step.Statement.{statement}
-use Rattle.capture.proofs.step.Tie as tie
+use Rattle.called_station.specs.Station.{StationReply}
+use Rattle.capture.specs.Playing.{takenOf, playStepOf}
+use Rattle.capture.proofs.play_byte.Statement.{statement}
+use Rattle.capture.proofs.play_byte.Tie as tie
 
 slice-aggregate-hear : tie.Need-slice-aggregate-hear
 slice-aggregate-hear c = search needs
@@ -28,13 +28,13 @@ same-length-4 : tie.Need-same-length-4
 same-length-4 c = search needs
 
 returns : tie.Need-returns
-unfolding stepOf
+unfolding playStepOf
 returns c =
     let a = c .before .before .before .before .before .before .before .before .before .before .before .before .before .before .before .before .before .before .before .before .before .before .before .before .before .before .before .before .args in
-    c .before .before .before .before .before .before .before .before .taken .ensures ∙ ap (λ (h : Answered). takenOf (h .answer) (h .station) (a .out .now) (a .p .count)) (c .before .before .before .before .before .before .before .before .before .before .before .before .before .before .before .before .before .before .before .hear .ensures)
+    c .before .before .before .before .before .before .before .before .taken .ensures ∙ ap (λ (h : StationReply). takenOf (h .answer) (h .station) (a .out .now) (a .p .count)) (c .before .before .before .before .before .before .before .before .before .before .before .before .before .before .before .before .before .before .before .hear .ensures)
 
-pub step-spec : {M : Type 1} → statement M
-step-spec =
+pub play-byte-spec : {M : Type 1} → statement M
+play-byte-spec =
     tie.close
     (tie.spec
     slice-aggregate-hear

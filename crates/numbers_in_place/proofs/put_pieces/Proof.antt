@@ -2,8 +2,8 @@
 use Rattle.numbers_in_place.proofs.Laws.{say-written}
 use lib.ListN.{length-set}
 use borrow.Author.Needs.{needs}
-use Rattle.numbers_in_place.proofs.put_say.Statement.{statement}
-use Rattle.numbers_in_place.proofs.put_say.Tie as tie
+use Rattle.numbers_in_place.proofs.put_pieces.Statement.{statement}
+use Rattle.numbers_in_place.proofs.put_pieces.Tie as tie
 
 slice-read-flag : tie.Need-slice-read-flag
 slice-read-flag c = search needs
@@ -118,8 +118,8 @@ returns c =
     let a = c .before .before .before .before .before .before .before .before .args in
     say-written (a .sm .now) (c .before .before .before .before .before .before .before .before .pre) (λ i. (c .before .before .before .before .before .before .slice-known2 .given i) .fits) _ _ _ (c .before .before .before .before .before .flag .ensures) (c .before .before .before .flag2 .ensures) (c .before .flag3 .ensures) (a .first) (a .then) (a .pos) _ (c .bytes8 .ensures)
 
-pub put-say-spec : {M : Type 1} → statement M
-put-say-spec =
+pub put-pieces-spec : {M : Type 1} → statement M
+put-pieces-spec =
     tie.close
     (tie.spec
     slice-read-flag
