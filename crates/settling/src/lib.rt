@@ -59,6 +59,9 @@ fn spoken(v: Verdict, after_cr: bool, mem: &[u8], table: &[u8]) -> Numbers
     ensures { λ r. ⌜ wholeOf r (now (mem .entry)) ≡ spokenOf (judgedIn v (now (mem .entry))) «after_cr» (now (table .entry)) ⌝ }
 {
     let next = v.next;
+    if v.speaks == phase::NOT_OUR_TURN {
+        return after_line(next, after_cr);
+    }
     let turn = speak(next, &mem[..places::HEADING], table, v.speaks);
     after_line(turn, after_cr)
 }
