@@ -1,4 +1,6 @@
 // A whole line, judged by what is awaited.
+#![tactic(auto)]
+
 ghost use Rattle.std.specs.Prelude.{◌≡◌, length};
 ghost use Rattle.places.specs.Places.{arrays_len};
 ghost use Rattle.numbers.specs.Whole.{Arrays, session_of, whole_of};

@@ -1,4 +1,6 @@
 // Where BIDs are compared: two of them, and one with those of a buffer's entries.
+#![tactic(auto)]
+
 ghost use Rattle.std.specs.Prelude.{◌≡◌, ◌+◌, ◌≤◌, min, eqb, length, take, drop};
 ghost use Rattle.grammar.specs.Fields.{upper, same_bid};
 ghost use Rattle.session.specs.Choices.{among};

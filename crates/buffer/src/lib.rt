@@ -1,4 +1,6 @@
 // Text written into a part of a lent buffer: from a place to the end of the buffer at most, and resumed where an earlier give stopped.
+#![tactic(auto)]
+
 ghost use Rattle.std.specs.Prelude.{◌+◌, ◌≤◌, min, ◌≡◌, [], ◌∷◌, ◌++◌, length, take, drop, replicate};
 ghost use Rattle.grammar.specs.Bytes.{CR, SP};
 ghost use Rattle.buffer.specs.Put.{wrote, Puts};
@@ -7,7 +9,7 @@ use copying::{clear, copy, copy_each};
 use part::at_most;
 
 // at: where the next byte goes. skip: how many bytes of the text are still to be passed over, since an earlier give has handed them out.
-#[derive(Drop)]
+#[derive(Clone, Copy)]
 pub struct Cursor {
     pub at: usize,
     pub skip: usize,

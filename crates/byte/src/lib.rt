@@ -1,4 +1,6 @@
 // Bytes: the classes that the fields of 01 are made of, each decided by a match with ranges; and letters as capitals.
+#![tactic(auto)]
+
 ghost use Rattle.std.specs.Prelude.{◌≡◌};
 ghost use Rattle.grammar.specs.Bytes.{every};
 ghost use Rattle.grammar.specs.Fields.{call_byte, bid_byte, heading_byte, not_ctrl_z, digit, upper, hex_digit, hex_pair};
@@ -21,7 +23,7 @@ const HEX_BASE: u8 = 16;
 const BELOW_A: u8 = b'A' - DECIMAL_BASE;
 
 // The classes by name, so that a rule over a class is written and proved once.
-#[derive(Drop)]
+#[derive(Clone, Copy)]
 pub enum Class {
     Call,
     Bid,
@@ -33,7 +35,7 @@ pub enum Class {
 }
 
 // What hexadecimal digits stand for, or no such digits.
-#[derive(Drop)]
+#[derive(Clone, Copy)]
 pub enum Hex {
     Value(u8),
     Other,

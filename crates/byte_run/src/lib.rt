@@ -1,5 +1,7 @@
 // Bytes that only make the line or the body under way longer, taken where the state stands in session memory: of its numbers only those
 // that change are written. All of the bytes are such, or none is taken.
+#![tactic(auto)]
+
 ghost use Rattle.std.specs.Prelude.{◌≡◌, ◌&&◌, eqb, length};
 ghost use Rattle.grammar.specs.Bytes.{Bytes, LF};
 ghost use Rattle.phase.specs.Phase.{phase_transfer};

@@ -1,4 +1,6 @@
 // Whether year, month and day are a date of 1970 to 2069, and hour and minute a time.
+#![tactic(auto)]
+
 ghost use Rattle.std.specs.Prelude.{◌≡◌, ◌≤◌};
 ghost use Rattle.dates.specs.Dates.{days_in, is_date, is_time, february, last_month};
 ghost use Rattle.calendar.specs.Meaning.{date_is, time_is};
@@ -24,7 +26,7 @@ const LAST_HOUR: u8 = 23;
 const LAST_MINUTE: u8 = 59;
 
 // A date, the year in full.
-#[derive(Drop)]
+#[derive(Clone, Copy)]
 pub struct Date {
     pub year: u16,
     pub month: u8,
@@ -32,7 +34,7 @@ pub struct Date {
 }
 
 // A time of day.
-#[derive(Drop)]
+#[derive(Clone, Copy)]
 pub struct Time {
     pub hour: u8,
     pub minute: u8,

@@ -1,4 +1,6 @@
 // The called station with an empty table, no known BIDs and partner 0 (02, Q-11): the three calls, in memory that the caller lends.
+#![tactic(auto)]
+
 ghost use Rattle.std.specs.Prelude.{◌≡◌};
 ghost use Rattle.called_station.specs.Station.{station, opened_of, heard_of, sent_of};
 

@@ -1,5 +1,7 @@
 // A capture played to our node (02, Q-11), the called station with nothing on its shelf, in memory that the caller lends. What it would send
 // goes into a buffer, since no contract can speak of standard output.
+#![tactic(auto)]
+
 ghost use Rattle.std.specs.Prelude.{◌≡◌};
 ghost use Rattle.called_station.specs.Station.{station};
 ghost use Rattle.capture.specs.Playing.{playing, unplayed, taken_of, play_start_of, play_step_of, play_of};

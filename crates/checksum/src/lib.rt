@@ -1,5 +1,7 @@
 // The checksum of a framed transfer, by wrapping sums of bytes: eight bytes a round, each into a lane, which is a sum of its own. Lanes don't
 // wait for one another, so the machine adds them side by side.
+#![tactic(auto)]
+
 ghost use Rattle.std.specs.Prelude.{◌≡◌, ◌+◌, ◌-◌, ◌%◌, ◌≤◌, length, take};
 ghost use Rattle.grammar.specs.Transfers.{byte_sum, checksum};
 ghost use Rattle.checksum.specs.Lanes.{lanes_sum, four_sum, round_size, turn_size};
@@ -11,7 +13,7 @@ const ROUND_BYTES: usize = 8;
 const TURN_BYTES: usize = 4 * ROUND_BYTES;
 
 // Eight lanes: the sums of each round's first bytes, of its second ones, and so on.
-#[derive(Drop)]
+#[derive(Clone, Copy)]
 struct Lanes {
     a: u8,
     b: u8,

@@ -1,4 +1,6 @@
 // Bytes over the first bytes of a slice: those of another slice, or zeros.
+#![tactic(auto)]
+
 ghost use Rattle.std.specs.Prelude.{◌≡◌, ◌++◌, ◌≤◌, length, take, drop, replicate};
 ghost use Rattle.copying.specs.Eight.{bytes_of, half_size, pair_size, stride_size};
 
@@ -10,7 +12,7 @@ const ROUND_BYTES: usize = 2 * HALF;
 const TURN_BYTES: usize = 2 * ROUND_BYTES;
 
 // Bytes that were read and are not written yet.
-#[derive(Drop)]
+#[derive(Clone, Copy)]
 struct Eight {
     a: u8,
     b: u8,

@@ -1,4 +1,6 @@
 // Dates as six digits, YYMMDD, and times as four, HHMM: read and written.
+#![tactic(auto)]
+
 ghost use Rattle.std.specs.Prelude.{◌≡◌, true, ◌+◌, ◌/◌, ◌%◌, ◌<◌, length};
 ghost use Rattle.grammar.specs.Bytes.{every};
 ghost use Rattle.grammar.specs.Fields.{digit, decimal_base};

@@ -1,4 +1,6 @@
 // Days from 1970-01-01: the number of a date, and the date of a number.
+#![tactic(auto)]
+
 ghost use Rattle.std.specs.Prelude.{◌≡◌, true, false, ◌≤◌, ◌<◌};
 ghost use Rattle.dates.specs.Dates.{is_date, month_start, day_number, year_in, year_start, date_of, last_month, cycle_years, all_days};
 ghost use Rattle.calendar.specs.Meaning.{date_is};

@@ -1,4 +1,6 @@
 // A number in decimal digits.
+#![tactic(auto)]
+
 ghost use Rattle.std.specs.Prelude.{◌≡◌, length, drop, ◌+◌, ◌%◌, ◌≤◌};
 ghost use Rattle.grammar.specs.Fields.{decimal, decimal_digits, decimal_base};
 ghost use Rattle.grammar.specs.Ascii.{char};

@@ -17,7 +17,7 @@ use Rattle.session.specs.Choices.{Shelf}
 use Rattle.session.specs.Session.{kind_due, Awaited, awaits_sid, awaits_prompt, awaits_turn, awaits_answer, Phase, a_line, new_turn, awaits_transfer, leaving, over, Memory, Session, with_sid, Outcome, refuses, goes_on, turn_marks, answer_marks, after_sid, Stepped, settled, kept_in, next_transfer, is_plain, step, opened, level_in_force}
 use Rattle.session.proofs.Ways.{Passes, to_end, to_turn, to_answer, to_transfer, our_turn_lem, our_answer_lem, next_transfer_lem, Wrong, no_sid, no_f, no_turn_line, ff_after_ff, ff_in_block, fq_first, fq_in_block, empty_block, empty_summed, too_many, wrong_hex, no_answer, LineOutcome, is_wrong, hears_sid, hears_text, hears_prompt, hears_proposal, hears_ff, hears_fq, hears_end, hears_fs, why_number, Way, is_refused, drops_lf, grows_line, ignores_line, hears_line, reads_on, reads_last, way}
 use Rattle.session.specs.Calls.{give}
-use Rattle.log.specs.Log.{due_on, owes, unsent}
+use Rattle.session_log.specs.Log.{due_on, owes, unsent}
 use Rattle.demand3.specs.Tally.{is_refusal}
 use Rattle.demand3.proofs.Inv.{next_of}
 use Rattle.demand3.proofs.Step.{numbered}

@@ -8,7 +8,7 @@ use Rattle.mail.specs.Mail.{Record, proposal_of, record_limit}
 use Rattle.session.specs.Choices.{Shelf}
 use Rattle.session.specs.Session.{Session, opened}
 use Rattle.session.specs.Calls.{receive, give, handed_out}
-use Rattle.log.specs.Log.{Event, took, gave, log}
+use Rattle.session_log.specs.Log.{Event, took, gave, log}
 
 -- ---------------------------------------------------------------- a list of calls
 

@@ -8,7 +8,7 @@ use Rattle.grammar.specs.Fields.{Form, plain, message}
 use Rattle.mail.specs.Mail.{Record, Message}
 use Rattle.session.specs.Choices.{Shelf, shelf_with}
 use Rattle.session.specs.Session.{Session, opened, ended}
-use Rattle.log.specs.Log.{Event, took, gave, log}
+use Rattle.session_log.specs.Log.{Event, took, gave, log}
 use Rattle.demand3.specs.Demand.{Call, receiving, giving, refused_call, run}
 
 -- A table and the states that open found, a role (true: caller), and calls.

@@ -4,7 +4,7 @@ use Rattle.std.specs.Prelude.{List, [], ◌∷◌, map, ℕ}
 use Rattle.mail.specs.Tally.{waiting_count, waiting_bytes}
 use Rattle.session.specs.Sessions.{Move, hears, takes}
 use Rattle.session.specs.Tallies.{Panel, Sample}
-use Rattle.log.specs.Log.{Log, unsettled}
+use Rattle.session_log.specs.Log.{Log, unsettled}
 use Rattle.demand3.specs.Demand.{Call, receiving, giving}
 use Rattle.demand3.specs.Tally.{log_told}
 

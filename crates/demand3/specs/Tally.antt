@@ -7,8 +7,8 @@ use Rattle.mail.specs.Tally.{Counts}
 use Rattle.session.specs.Choices.{Shelf}
 use Rattle.session.specs.Session.{Memory, Session, opened}
 use Rattle.session.specs.Calls.{receive, last_byte, give, handed_out}
-use Rattle.log.specs.Effects.{Account}
-use Rattle.log.specs.Log.{Event, took, gave, Log, unsettled, log}
+use Rattle.session_log.specs.Effects.{Account}
+use Rattle.session_log.specs.Log.{Event, took, gave, Log, unsettled, log}
 use Rattle.demand3.specs.Demand.{Call, receiving, giving, refused_call, run}
 
 -- ---------------------------------------------------------------- what the tally sheet is told

@@ -1,4 +1,6 @@
 // How many entries the lent buffers have.
+#![tactic(auto)]
+
 ghost use Rattle.std.specs.Prelude.{◌≡◌, min};
 ghost use Rattle.entries.specs.Decoded.{record_count, known_count, place_count};
 

@@ -1,9 +1,13 @@
 // 01's unmarked examples, played through the three calls: how long a line may be, and a whole session of a called station with an empty
 // table. No buffer but session memory has a byte.
+#![tactic(auto)]
+
 ghost use Rattle.std.specs.Prelude.{◌≡◌, ◌≤◌, length};
 ghost use Rattle.places.specs.Places.{line_len, session_len};
 
 use give::Reply;
+use std::io;
+use std::io::Write;
 
 // The role of a called station, and its first partner.
 const CALLED: u8 = 0;
@@ -25,44 +29,43 @@ const LINE_LIMIT: usize = places::LINE_ROOM;
 const MOST_SPACES: usize = LINE_LIMIT - PROPOSAL;
 
 // A text for the reader of this program.
-fn say(text: &[u8]) {
-    io::write_all(1, text);
+fn say<W: Write>(out: &mut W, text: &[u8]) -> io::Result<()> {
+    out.write_all(text)
 }
 
 // A number in decimal.
-fn say_number(n: usize) {
-    io::print_decimal(1, n as u64);
+fn say_number<W: Write>(out: &mut W, n: usize) -> io::Result<()> {
+    write!(out, "{n}")
 }
 
 // One byte as it is on the link, but CR so that it is seen.
-fn show_byte(b: u8) {
+fn show_byte<W: Write>(out: &mut W, b: u8) -> io::Result<()> {
     if b == CR {
-        say(b"<CR>");
-        return;
+        return say(out, b"<CR>");
     }
     let one = [b];
-    say(&one);
+    say(out, &one)
 }
 
 // Bytes of the link on a line of their own.
-fn show(who: &[u8], bytes: &[u8]) {
-    say(who);
+fn show<W: Write>(out: &mut W, who: &[u8], bytes: &[u8]) -> io::Result<()> {
+    say(out, who)?;
     let mut i = 0;
     while i < bytes.len() {
-        show_byte(bytes[i]);
+        show_byte(out, bytes[i])?;
         i += 1;
     }
-    say(b"\n");
+    say(out, b"\n")
 }
 
 // What a call answered.
-fn tell(call: &[u8], reply: Reply) {
-    say(call);
-    say(b": answer ");
-    say_number(reply.answer as usize);
-    say(b", count ");
-    say_number(reply.count);
-    say(b"\n");
+fn tell<W: Write>(out: &mut W, call: &[u8], reply: Reply) -> io::Result<()> {
+    say(out, call)?;
+    say(out, b": answer ")?;
+    say_number(out, reply.answer as usize)?;
+    say(out, b", count ")?;
+    say_number(out, reply.count)?;
+    say(out, b"\n")
 }
 
 // Session memory, as a host that does not clear it might lend it.
@@ -73,7 +76,7 @@ fn session_memory() -> [u8; SESSION]
 }
 
 // Opens the session.
-fn opened(session: &mut [u8]) {
+fn opened<W: Write>(out: &mut W, session: &mut [u8]) -> io::Result<()> {
     let reply = open::open(
         CALLED,
         FIRST_PARTNER,
@@ -86,40 +89,41 @@ fn opened(session: &mut [u8]) {
         b"",
         b"",
     );
-    tell(b"open", reply);
+    tell(out, b"open", reply)
 }
 
 // Takes all that waits.
-fn given(session: &mut [u8]) {
+fn given<W: Write>(out: &mut W, session: &mut [u8]) -> io::Result<()> {
     let mut buf = [0u8; ROOM];
     let reply = give::give(session, b"", b"", b"", b"", b"", b"", b"", &mut buf, 0);
     let n = reply.count;
     if n <= ROOM {
-        show(b"out: ", &buf[0..n]);
+        show(out, b"out: ", &buf[0..n])?;
     }
+    Ok(())
 }
 
 // Receives bytes of the partner's.
-fn received(session: &mut [u8], bytes: &[u8]) {
+fn received<W: Write>(out: &mut W, session: &mut [u8], bytes: &[u8]) -> io::Result<()> {
     let mut table = [0u8; 0];
     let mut inbox = [0u8; 0];
     let mut store = [0u8; 0];
     let reply = receive::receive(
         session, &mut table, b"", b"", b"", b"", &mut inbox, &mut store, bytes,
     );
-    tell(b"receive", reply);
+    tell(out, b"receive", reply)
 }
 
 // 01: "Whole session, called, empty table.", on what the partner sends; then whether the session has ended.
-fn whole_session(input: &[u8]) {
-    say(b"whole session, called, empty table\n");
+fn whole_session<W: Write>(out: &mut W, input: &[u8]) -> io::Result<()> {
+    say(out, b"whole session, called, empty table\n")?;
     let mut session = session_memory();
-    opened(&mut session);
-    given(&mut session);
-    show(b"in:  ", input);
-    received(&mut session, input);
-    given(&mut session);
-    received(&mut session, b"");
+    opened(out, &mut session)?;
+    given(out, &mut session)?;
+    show(out, b"in:  ", input)?;
+    received(out, &mut session, input)?;
+    given(out, &mut session)?;
+    received(out, &mut session, b"")
 }
 
 // As many spaces as a line has bytes.
@@ -130,23 +134,28 @@ fn spaces() -> [u8; LINE_LIMIT]
 }
 
 // 01: "256 bytes then CR: judged; 257: refusal 2." A proposal, n spaces, and CR, each received by itself.
-fn long_line(n: usize)
+fn long_line<W: Write>(out: &mut W, n: usize) -> io::Result<()>
     requires { n ≤ line_len }
 {
-    say_number(PROPOSAL + n);
-    say(b" bytes, then CR\n");
+    say_number(out, PROPOSAL + n)?;
+    say(out, b" bytes, then CR\n")?;
     let mut session = session_memory();
-    opened(&mut session);
-    given(&mut session);
-    received(&mut session, b"[TST-1-F$]\r");
-    received(&mut session, b"FB P F6FBB FC1GHV FC1MVP 24657_F6FBB 1345");
+    opened(out, &mut session)?;
+    given(out, &mut session)?;
+    received(out, &mut session, b"[TST-1-F$]\r")?;
+    received(
+        out,
+        &mut session,
+        b"FB P F6FBB FC1GHV FC1MVP 24657_F6FBB 1345",
+    )?;
     let space = spaces();
-    received(&mut session, &space[0..n]);
-    received(&mut session, b"\r");
+    received(out, &mut session, &space[0..n])?;
+    received(out, &mut session, b"\r")
 }
 
-fn main() {
-    whole_session(b"[TST-1-F$]\rFF\r");
-    long_line(MOST_SPACES);
-    long_line(MOST_SPACES + 1);
+fn main(rt: HostRuntime) -> io::Result<()> {
+    let mut out = rt.stdout();
+    whole_session(&mut out, b"[TST-1-F$]\rFF\r")?;
+    long_line(&mut out, MOST_SPACES)?;
+    long_line(&mut out, MOST_SPACES + 1)
 }

@@ -1,4 +1,6 @@
 // The set of features that a mailbox says it has, by the fixed places of their letters.
+#![tactic(auto)]
+
 ghost use Rattle.std.specs.Prelude.{◌≡◌};
 ghost use Rattle.std.proofs.Math.Option.{some};
 ghost use Rattle.grammar.specs.Sid.{no_features, has_feature, with_feature, level_of, read_sid, framed, level_of_sid};
@@ -11,7 +13,7 @@ pub const PLACES: usize = FeatureSet::DOLLAR as usize + 1;
 const LEVELS: u8 = 10;
 
 // The features of a mailbox by the fixed places of their letters: 0 where a feature isn't there, else its level and 1 more.
-#[derive(Drop)]
+#[derive(Clone, Copy)]
 pub struct FeatureSet {
     pub levels: [u8; PLACES],
 }

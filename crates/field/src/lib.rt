@@ -1,4 +1,6 @@
 // Fields: 1 to n bytes of a class, the rules for from, to, at, BID, heading and body.
+#![tactic(auto)]
+
 ghost use Rattle.std.specs.Prelude.{◌≡◌};
 ghost use Rattle.grammar.specs.Fields.{field, is_call, is_bid, is_heading, is_at, is_body, all_calls, parts, form_is};
 ghost use Rattle.byte.specs.Classes.{class_of};

@@ -1,6 +1,8 @@
 // The field reader of 01: it goes along a received line and hands out one field at a time. It is a struct that holds the line
 // and a place in it. The automatic proof covers no function over such a struct, so these are few and thin, and walked by hand;
 // the work is done by `field_at`, on the line and the place, which is covered.
+#![tactic(auto)]
+
 ghost use Rattle.std.specs.Prelude.{◌≡◌, ◌≤◌, length, drop};
 ghost use Rattle.grammar.specs.Fields.{words};
 ghost use Rattle.span.specs.Places.{words_by};

@@ -1,4 +1,6 @@
 // Up to five numbers: places of a block, or signs.
+#![tactic(auto)]
+
 ghost use Rattle.std.specs.Prelude.{◌≡◌, [], ◌∷◌, ◌++◌, ◌≤◌, ◌<◌, length};
 ghost use Rattle.phase.specs.Phase.{block_limit};
 ghost use Rattle.session_memory.specs.State.{held, five_of, no_five};

@@ -1,4 +1,6 @@
 // The form test: whether lent memory is as an accepted open, a receive or a give leaves it.
+#![tactic(auto)]
+
 ghost use Rattle.std.specs.Prelude.{◌≡◌, true, false, cond, ◌&&◌, ◌+◌, ◌*◌, ◌<◌, ◌≤◌, ◌-◌, eqb, leb, length, drop};
 ghost use Rattle.layout.specs.Layout.{entry_at, body_length};
 ghost use Rattle.places.specs.Places.{entry_len, session_len};

@@ -1,4 +1,6 @@
 // White pages for a C host (include/fringemole_pages.h): a mail surveyed, its lines by their places, and dates of the older ones.
+#![tactic(auto)]
+
 ghost use Rattle.std.specs.Prelude.{◌≡◌, cond};
 ghost use Rattle.pages.specs.Pages.{survey_of};
 ghost use Rattle.pages.specs.Stamps.{to_seconds, to_date};

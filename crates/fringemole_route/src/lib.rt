@@ -1,4 +1,6 @@
 // Routing headers for a C host (include/fringemole_route.h): read by places in a lent body, and ours written into a second buffer.
+#![tactic(auto)]
+
 ghost use Rattle.std.specs.Prelude.{◌≡◌, cond};
 ghost use Rattle.route.specs.Written.{add_route};
 ghost use Rattle.route_write.specs.Meaning.{added_number, added_count};

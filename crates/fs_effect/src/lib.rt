@@ -1,4 +1,6 @@
 // The FS line on our proposals: what is sent, what is declined, what is deferred.
+#![tactic(auto)]
+
 ghost use Rattle.std.specs.Prelude.{◌≡◌, set};
 ghost use Rattle.grammar.specs.Answers.{accept, decline, defer, write_sign};
 ghost use Rattle.numbers.specs.Whole.{Arrays, with_deferred, session_of};

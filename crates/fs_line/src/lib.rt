@@ -1,4 +1,6 @@
 // The FS line: the partner's answers to the proposals of a block, one sign a proposal, at the level in force. 0 is level 0, every other number counts as level 1.
+#![tactic(auto)]
+
 ghost use Rattle.std.specs.Prelude.{◌≡◌, true, cond, ◌||◌, [], ◌≤◌, eqb, length, drop};
 ghost use Rattle.grammar.specs.Bytes.{every, is_some};
 ghost use Rattle.grammar.specs.Ascii.{text};

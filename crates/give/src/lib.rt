@@ -1,4 +1,6 @@
 // The call give.
+#![tactic(auto)]
+
 ghost use Rattle.std.specs.Prelude.{◌≡◌, length};
 ghost use Rattle.grammar.specs.Refusals.{bad_memory, no_place};
 ghost use Rattle.places.specs.Places.{session_len};

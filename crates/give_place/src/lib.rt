@@ -1,4 +1,6 @@
 // Where in what waits the next byte to give is.
+#![tactic(auto)]
+
 ghost use Rattle.std.specs.Prelude.{◌≡◌, [], ◌-◌, ◌<◌, ◌≤◌, ltb, length, get_or, drop};
 ghost use Rattle.session_memory.specs.State.{held, load_of};
 ghost use Rattle.waiting.specs.Waiting.{first_text};

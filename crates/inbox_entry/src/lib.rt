@@ -1,4 +1,6 @@
 // The entry that a kept message gets in the inbox: its proposal as it lies in the block, its heading, where its body lies in the store.
+#![tactic(auto)]
+
 ghost use Rattle.std.specs.Prelude.{◌≡◌, length};
 ghost use Rattle.places.specs.Places.{arrays_len};
 ghost use Rattle.numbers.specs.Whole.{whole_of};

@@ -1,4 +1,6 @@
 // A whole message is kept: it is counted, its body stands behind those kept, and the next transfer is awaited or it is our turn.
+#![tactic(auto)]
+
 ghost use Rattle.std.specs.Prelude.{◌≡◌, length};
 ghost use Rattle.places.specs.Places.{arrays_len};
 ghost use Rattle.numbers.specs.Whole as whole;

@@ -1,4 +1,6 @@
 // Lent memory: bytes and fields at their places, and the entries of the table, the known BIDs, the inbox and a block of proposals.
+#![tactic(auto)]
+
 ghost use Rattle.std.specs.Prelude.{◌≡◌};
 ghost use Rattle.layout.specs.Layout.{byte_at, field_in, entry_at, state_for};
 

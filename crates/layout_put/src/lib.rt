@@ -1,4 +1,6 @@
 // The entries of a block of proposals and of the inbox, written.
+#![tactic(auto)]
+
 ghost use Rattle.std.specs.Prelude.{◌≡◌, [], ◌∷◌, ◌++◌, ◌+◌, ◌*◌, ◌≤◌, ◌<◌, length, take, drop};
 ghost use Rattle.buffer.specs.Put.{Puts};
 ghost use Rattle.layout.specs.Layout.{field_out, fields_out, proposal_out, entry_out};

@@ -1,4 +1,6 @@
 // Lines: what one byte does where a line is awaited, and what is judged when its CR has come.
+#![tactic(auto)]
+
 ghost use Rattle.std.specs.Prelude.{◌≡◌, ◌≤◌, length, take};
 ghost use Rattle.grammar.specs.Lines.{trim, is_comment, is_prompt, line_byte};
 ghost use Rattle.line.specs.Byte.{line_byte_is};

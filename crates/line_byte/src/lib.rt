@@ -1,4 +1,6 @@
 // A byte of a line: dropped, one more in its line, the line's end and what it leaves, or a line too long.
+#![tactic(auto)]
+
 ghost use Rattle.std.specs.Prelude.{◌≡◌, ◌<◌, length, take};
 ghost use Rattle.grammar.specs.Bytes.{CR};
 ghost use Rattle.grammar.specs.Lines.{line_limit, ends};

@@ -1,4 +1,6 @@
 // What a line comes to: its answer, the marks to set, and the state after it.
+#![tactic(auto)]
+
 ghost use Rattle.std.specs.Prelude.{◌≡◌};
 ghost use Rattle.numbers.specs.Whole.{Arrays, keep_with, session_of};
 ghost use Rattle.line_effect.specs.Judge.{no_marks, refusal, went_on, turn_marks, settled_keep};
@@ -9,7 +11,7 @@ use numbers::{KeepNumbers, Numbers};
 use session_memory::Five;
 
 // The records at these places get this state; deferred: how many others an FS line defers.
-#[derive(Drop)]
+#[derive(Clone, Copy)]
 pub struct Marks {
     pub state: u8,
     pub places: Five,
@@ -18,7 +20,7 @@ pub struct Marks {
 
 // What a line comes to: 01's number, or 0 with the numbers after it, the marks to set, and whether it is then our turn (phase::OUR_TURN and
 // its like). Where the line is refused they are as they were.
-#[derive(Drop)]
+#[derive(Clone, Copy)]
 pub struct Verdict {
     pub answer: u8,
     pub speaks: u8,

@@ -1,4 +1,6 @@
 // A number of 1 to 10 digits.
+#![tactic(auto)]
+
 ghost use Rattle.std.specs.Prelude.{◌≡◌};
 ghost use Rattle.pages.specs.Fields.{read_long};
 ghost use Rattle.long_number.specs.Meaning.{long_is};

@@ -18,9 +18,9 @@ use Rattle.session.specs.Choices.{Shelf, wanted, candidates, size_at, chosen}
 use Rattle.session.specs.Session.{kind_due, Awaited, awaits_sid, awaits_prompt, awaits_turn, awaits_answer, Phase, a_line, awaits_transfer, leaving, over, Memory, Session, Outcome, refuses, goes_on, turn_marks, Stepped, settled, is_plain, next_transfer, step}
 use Rattle.session.proofs.Ways.{Passes, to_end, to_turn, to_answer, to_transfer, our_turn_lem, our_answer_lem, next_transfer_lem, LineOutcome, is_wrong, hears_sid, hears_text, hears_prompt, hears_proposal, hears_ff, hears_fq, hears_end, hears_fs, Way, is_refused, drops_lf, grows_line, ignores_line, hears_line, reads_on, reads_last, way}
 use Rattle.main_theorem.specs.Deeds.{gives_sign}
-use Rattle.log.specs.Effects.{one_of, is_minus, given_sign}
+use Rattle.session_log.specs.Effects.{one_of, is_minus, given_sign}
 use Rattle.phase.specs.Phase.{state_waiting, state_forwarded, state_declined}
-use Rattle.log.proofs.Effects.{made_other}
+use Rattle.session_log.proofs.Effects.{made_other}
 use Rattle.demand3.proofs.Effects.{marked_alike, declined_alike}
 use Rattle.main_theorem.proofs.DeedStates.{declined_one}
 use Rattle.main_theorem.proofs.Becomes.{MarksStand}

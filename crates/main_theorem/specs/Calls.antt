@@ -1,7 +1,7 @@
 -- A list of calls over lent memory: "Each call is lent the same memory, as the last one left it, and nobody else writes it meanwhile."
 use Rattle.std.specs.Prelude.{◌≡◌, true, Bool, not, List, [], ◌∷◌, ◌++◌, map, ℕ, ◌<◌, length, take, drop, eqb}
 use Rattle.grammar.specs.Bytes.{Bytes, every, is_byte, word_values}
-use Rattle.log.specs.Log.{Event, took, gave}
+use Rattle.session_log.specs.Log.{Event, took, gave}
 use Rattle.session_memory.specs.State.{load_of}
 use Rattle.session_memory.specs.declared.Sizes.{Sizes}
 use Rattle.form_test.specs.Form.{same_sizes, lent_sizes, form_of}

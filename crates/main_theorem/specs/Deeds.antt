@@ -8,8 +8,8 @@ use Rattle.grammar.specs.Turns.{Proposal, read_turn_line}
 use Rattle.grammar.specs.Answers.{Sign, accept, decline, defer, read_fs, level0}
 use Rattle.grammar.specs.Transfers.{kind_of, Content, read_transfer}
 use Rattle.mail.specs.Mail.{Record, Message}
-use Rattle.log.specs.Effects.{kept_as}
-use Rattle.log.specs.Log.{kind_owed, Event, Ours, our_opening, our_turn, our_answer, Theirs, their_text, their_sid, their_turn, their_answer, Next, over, we_say, they_say, their_transfer, our_transfer, Log, Said, unfinished, farewell, wrong, turn, said, checked, applied, Cut, not_whole, out_of_turn, unit, cut_unit, with_after_cr, log_opened, Book, level_in_force}
+use Rattle.session_log.specs.Effects.{kept_as}
+use Rattle.session_log.specs.Log.{kind_owed, Event, Ours, our_opening, our_turn, our_answer, Theirs, their_text, their_sid, their_turn, their_answer, Next, over, we_say, they_say, their_transfer, our_transfer, Log, Said, unfinished, farewell, wrong, turn, said, checked, applied, Cut, not_whole, out_of_turn, unit, cut_unit, with_after_cr, log_opened, Book, level_in_force}
 use Rattle.phase.specs.Phase.{state_waiting, state_forwarded, state_declined}
 
 -- ---------------------------------------------------------------- what a whole unit does

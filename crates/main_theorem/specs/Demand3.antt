@@ -1,6 +1,6 @@
 -- DEMAND 3 over lent memory. One claim about the list of calls; the proof is proofs/Demand3.
 use Rattle.std.specs.Prelude.{◌≡◌, List, ℕ, ◌*◌, length, take, drop}
-use Rattle.log.specs.Log.{Event, Log, log}
+use Rattle.session_log.specs.Log.{Event, Log, log}
 use Rattle.entries.specs.Decoded.{records_of}
 use Rattle.grammar.specs.Refusals.{bad_memory, no_place}
 use Rattle.give.specs.Giving.{reply}

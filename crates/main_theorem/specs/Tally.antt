@@ -2,8 +2,8 @@
 use Rattle.std.specs.Prelude.{◌≡◌, map, ℕ, ◌+◌, ◌≤◌}
 use Rattle.mail.specs.Mail.{record_limit}
 use Rattle.mail.specs.Tally.{waiting_count, waiting_bytes}
-use Rattle.log.specs.Effects.{Account}
-use Rattle.log.specs.Log.{Log, unsettled}
+use Rattle.session_log.specs.Effects.{Account}
+use Rattle.session_log.specs.Log.{Log, unsettled}
 use Rattle.demand3.specs.Tally.{log_told}
 use Rattle.places.specs.Places.{tally_waiting_at, tally_sizes_at, tally_proposed_at, tally_forwarded_at, tally_declined_at, tally_deferred_at, tally_unsettled_at}
 use Rattle.layout.specs.Layout.{byte_at, le4_at}

@@ -1,4 +1,6 @@
 // Where a record gets its state for a partner: forwarded or declined.
+#![tactic(auto)]
+
 ghost use Rattle.std.specs.Prelude.{◌≡◌};
 ghost use Rattle.session_memory.specs.State.{held};
 ghost use Rattle.marking.specs.States.{set_state, mark_all};

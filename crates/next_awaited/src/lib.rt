@@ -1,4 +1,6 @@
 // What is awaited after a line or a message: the partner's turn, or the transfer of an accepted proposal.
+#![tactic(auto)]
+
 ghost use Rattle.std.specs.Prelude.{◌≡◌};
 ghost use Rattle.numbers.specs.Whole.{Arrays, with_block, await_of};
 ghost use Rattle.numbers.specs.declared.AwaitNumbers.{AwaitNumbers};

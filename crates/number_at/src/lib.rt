@@ -1,4 +1,6 @@
 // Numbers in lent memory, little end first, read where they are known to lie within.
+#![tactic(auto)]
+
 ghost use Rattle.std.specs.Prelude.{◌≡◌, ◌+◌, ◌<◌, ◌≤◌, length};
 ghost use Rattle.layout.specs.Layout.{byte_at, le2_at, le4_at, le8_at};
 ghost use Rattle.grammar.specs.Bytes.{byte_values, two_byte_values};

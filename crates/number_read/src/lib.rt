@@ -1,4 +1,6 @@
 // Numbers in lent memory, little end first, read.
+#![tactic(auto)]
+
 ghost use Rattle.std.specs.Prelude.{◌≡◌, ◌<◌, ◌+◌};
 ghost use Rattle.layout.specs.Layout.{le2_at, le4_at, le8_at};
 ghost use Rattle.grammar.specs.Bytes.{byte_values, two_byte_values, four_byte_values};

@@ -1,4 +1,6 @@
 // Numbers as bytes, little end first, as they are written to lent memory.
+#![tactic(auto)]
+
 ghost use Rattle.std.specs.Prelude.{◌≡◌};
 ghost use Rattle.layout.specs.Layout.{le2, le4, le8};
 

@@ -1,4 +1,6 @@
 // The numbers of a session's state; its arrays stay in session memory.
+#![tactic(auto)]
+
 ghost use Rattle.std.specs.Prelude.{◌≡◌, ◌+◌, ◌<◌, ◌≤◌, length};
 ghost use Rattle.buffer.specs.Put.{put_bytes};
 ghost use Rattle.places.specs.Places.{numbers_start, session_len};
@@ -16,7 +18,7 @@ use transfer_step::Reader;
 // Where the numbers of more than one byte begin: the line's length is the first of them.
 const LARGE: usize = places::LINE_LENGTH;
 
-#[derive(Drop)]
+#[derive(Clone, Copy)]
 pub struct AwaitNumbers {
     pub phase: u8,
     pub ff: bool,
@@ -26,7 +28,7 @@ pub struct AwaitNumbers {
     pub sum: u8,
 }
 
-#[derive(Drop)]
+#[derive(Clone, Copy)]
 pub struct KeepNumbers {
     pub framed: bool,
     pub terms: Terms,
@@ -35,13 +37,13 @@ pub struct KeepNumbers {
     pub sending: Five,
 }
 
-#[derive(Drop)]
+#[derive(Clone, Copy)]
 pub struct LineNumbers {
     pub after_cr: bool,
     pub len: u16,
 }
 
-#[derive(Drop)]
+#[derive(Clone, Copy)]
 pub struct Numbers {
     pub now: AwaitNumbers,
     pub say: Say,

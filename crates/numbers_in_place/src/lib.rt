@@ -1,4 +1,6 @@
 // Some of the numbers changed where they stand in session memory, as if all were loaded, changed and saved.
+#![tactic(auto)]
+
 ghost use Rattle.std.specs.Prelude.{◌≡◌, eqb, length};
 ghost use Rattle.grammar.specs.Bytes.{flag};
 ghost use Rattle.buffer.specs.Put.{put_bytes};

@@ -1,4 +1,6 @@
 // The call open.
+#![tactic(auto)]
+
 ghost use Rattle.std.specs.Prelude.{◌≡◌, ◌&&◌, not, [], ◌<◌, eqb};
 ghost use Rattle.grammar.specs.Fields.{form_is, is_call, is_at, is_bid};
 ghost use Rattle.grammar.specs.Turns.{is_type};

@@ -1,4 +1,6 @@
 // What open writes into session memory: the mark and the sizes, then a fresh session.
+#![tactic(auto)]
+
 ghost use Rattle.std.specs.Prelude.{◌≡◌, ◌++◌, length, replicate};
 ghost use Rattle.buffer.specs.Put.{Puts};
 ghost use Rattle.layout.specs.Layout.{le8};

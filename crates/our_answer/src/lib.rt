@@ -1,4 +1,6 @@
 // How we answer the partner's proposals: a sign for each of a block, by what we have, what has room, and what is promised in the block so far.
+#![tactic(auto)]
+
 ghost use Rattle.std.specs.Prelude.{◌≡◌, [], ◌∷◌, ◌++◌, ◌+◌, ◌-◌, ◌≤◌, ◌<◌};
 ghost use Rattle.grammar.specs.Bytes.{Bytes, byte_values, word_values};
 ghost use Rattle.grammar.specs.Answers.{write_sign};
@@ -25,7 +27,7 @@ use session_memory::Five;
 const BODY_MAX: usize = places::BODY_MAX as usize;
 
 // What is promised in this block so far: the places of the proposals accepted, and the sum of their sizes.
-#[derive(Drop)]
+#[derive(Clone, Copy)]
 pub struct Promised {
     pub places: Five,
     pub bytes: usize,

@@ -1,4 +1,6 @@
 // Our lines, each with its CR, resumed at any byte with any room: the text at the cursor, what of it isn't passed over and fits.
+#![tactic(auto)]
+
 ghost use Rattle.std.specs.Prelude.{◌≡◌, [], ◌∷◌, ◌++◌};
 ghost use Rattle.grammar.specs.Bytes.{CR};
 ghost use Rattle.grammar.specs.Fields.{form_is, decimal};

@@ -1,4 +1,6 @@
 // Our turn: which records we propose, and what we say where none is left.
+#![tactic(auto)]
+
 ghost use Rattle.std.specs.Prelude.{◌≡◌, []};
 ghost use Rattle.grammar.specs.Fields.{form_is};
 ghost use Rattle.grammar.specs.Turns.{in_mode};

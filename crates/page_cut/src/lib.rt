@@ -1,4 +1,6 @@
 // Pieces of a line by their places: what stands before the next space, and what stands between two quotes; and whether a piece obeys a rule.
+#![tactic(auto)]
+
 ghost use Rattle.std.specs.Prelude.{◌≡◌};
 ghost use Rattle.grammar.specs.Fields.{is_call, is_at, is_bid};
 ghost use Rattle.span.specs.Places.{part, Lies};

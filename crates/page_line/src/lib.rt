@@ -1,4 +1,6 @@
 // A line of the white pages: what it is, its fields by their places in the line.
+#![tactic(auto)]
+
 ghost use Rattle.std.specs.Prelude.{◌≡◌, true, ◌+◌, ◌≤◌, length, drop, get_or};
 ghost use Rattle.pages.specs.Pages.{is_hex, leads, has_flag, flag_length, version_of, member_by, by_letter, read_page, flag_place, data_after_flag};
 ghost use Rattle.pages.specs.Fields.{member_of};
@@ -34,7 +36,7 @@ const NO_RECORD: u8 = 1;
 const BAD_VERSION: u8 = 2;
 
 // What a line is; a version by the number of its two digits.
-#[derive(Drop)]
+#[derive(Clone, Copy)]
 pub enum Page {
     Version(u32),
     Member(Member),

@@ -1,4 +1,6 @@
 // A member of the white pages: the nine fields of an M record, by their places in the line.
+#![tactic(auto)]
+
 ghost use Rattle.std.specs.Prelude.{◌≡◌, ◌≤◌, length};
 ghost use Rattle.page_member.specs.Meaning.{nine_of, MemberIs};
 
@@ -7,7 +9,7 @@ use page_words::{ReadWhen, ReadWho, When, Who, read_when, read_who};
 use span::Span;
 
 // The nine fields.
-#[derive(Drop)]
+#[derive(Clone, Copy)]
 pub struct Member {
     pub call: Span,
     pub home: Span,

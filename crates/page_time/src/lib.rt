@@ -1,4 +1,6 @@
 // Dates of the older white pages as seconds that may fall before 1970, and back.
+#![tactic(auto)]
+
 ghost use Rattle.std.specs.Prelude.{◌≡◌, ◌<◌};
 ghost use Rattle.pages.specs.Stamps.{seconds_of, to_seconds, to_date};
 ghost use Rattle.page_time.specs.Meaning.{DayIs, seconds_is, dated_said};

@@ -1,4 +1,6 @@
 // The last three fields of a member: name and town between quotes, and the zip between them.
+#![tactic(auto)]
+
 ghost use Rattle.std.specs.Prelude.{◌≡◌, ◌≤◌, length};
 ghost use Rattle.page_whence.specs.Meaning.{WhenceIs, ZipIs};
 

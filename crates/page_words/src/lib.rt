@@ -1,4 +1,6 @@
 // The first six fields of a member, words with one space between: call, home mailbox and BID; time stamp, origin and hops.
+#![tactic(auto)]
+
 ghost use Rattle.std.specs.Prelude.{◌≡◌, ◌≤◌, length};
 ghost use Rattle.page_words.specs.Meaning.{WhoIs, StampIs, WhenIs};
 

@@ -1,4 +1,6 @@
 // A part of a lent store, where it lies, and a length that goes no further than it may.
+#![tactic(auto)]
+
 ghost use Rattle.std.specs.Prelude.{◌≡◌, min, length};
 ghost use Rattle.grammar.specs.Transfers.{part_of};
 

@@ -1,4 +1,6 @@
 // The lines of the partner's turn: proposals, F> with or without a checksum, FF and FQ.
+#![tactic(auto)]
+
 ghost use Rattle.std.specs.Prelude.{◌≡◌, ℕ};
 ghost use Rattle.buffer.specs.Put.{put_bytes};
 ghost use Rattle.span.specs.Places.{part};

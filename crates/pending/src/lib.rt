@@ -1,4 +1,6 @@
 // Whether bytes wait for give, and whether the session has ended: two facts, not one, since a refusal leaves a line to give.
+#![tactic(auto)]
+
 ghost use Rattle.std.specs.Prelude.{◌≡◌};
 ghost use Rattle.grammar.specs.Bytes.{Bytes};
 ghost use Rattle.numbers.specs.Whole.{whole_of};

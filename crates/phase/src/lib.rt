@@ -1,4 +1,6 @@
 // What a session awaits and what waits for give, by number, as session memory holds them (docs/MEMORY.md). crates/phase/specs has the same names.
+#![tactic(auto)]
+
 ghost use Rattle.std.specs.Prelude.{◌≡◌};
 ghost use Rattle.phase.specs.Phase.{is_closed};
 

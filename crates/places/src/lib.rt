@@ -1,4 +1,5 @@
 // Where each thing lies in lent memory, and how long it is (docs/MEMORY.md has the same as tables). crates/places/specs has the same names.
+#![tactic(auto)]
 
 // The longest field of each kind; 01, "Fields".
 pub const CALL_MAX: u8 = 6;

@@ -1,4 +1,6 @@
 // The lines of a turn: FF, FQ, F> with or without a checksum, and proposals, whose fields are shown where they lie in the line.
+#![tactic(auto)]
+
 ghost use Rattle.std.specs.Prelude.{◌≡◌, map, ◌≤◌};
 ghost use Rattle.grammar.specs.Fields.{upper};
 ghost use Rattle.grammar.specs.Turns.{form_said, type_of, or_not_allowed, read_proposal, read_summed_end, read_turn_line};
@@ -12,7 +14,7 @@ use size::{Size, read_size};
 use span::Span;
 
 // A proposal as read: its form by 01's number, its type as the capital P or B, and its fields where they lie in the line.
-#[derive(Drop)]
+#[derive(Clone, Copy)]
 pub struct Proposal {
     pub form: u8,
     pub kind: u8,
@@ -24,7 +26,7 @@ pub struct Proposal {
 }
 
 // What a line says in a turn; End is F> with the block's checksum, or with none.
-#[derive(Drop)]
+#[derive(Clone, Copy)]
 pub enum TurnLine {
     FF,
     FQ,
@@ -34,7 +36,7 @@ pub enum TurnLine {
 }
 
 // The seven fields of a proposal, in their order.
-#[derive(Drop)]
+#[derive(Clone, Copy)]
 struct Seven {
     letters: Span,
     kind: Span,

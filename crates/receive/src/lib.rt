@@ -1,4 +1,6 @@
 // The call receive.
+#![tactic(auto)]
+
 ghost use Rattle.std.specs.Prelude.{◌≡◌, length};
 ghost use Rattle.places.specs.Places.{arrays_len};
 ghost use Rattle.session_memory.specs.State.{load_of};

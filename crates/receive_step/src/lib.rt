@@ -1,4 +1,6 @@
 // What receive takes at once: a byte of a line, or the run of a transfer's bytes; with its last byte the message is kept.
+#![tactic(auto)]
+
 ghost use Rattle.std.specs.Prelude.{◌≡◌, [], length};
 ghost use Rattle.grammar.specs.Bytes.{Bytes};
 ghost use Rattle.phase.specs.Phase.{phase_transfer};

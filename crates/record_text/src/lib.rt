@@ -1,4 +1,6 @@
 // The texts of a record of the table, where they lie in their stores.
+#![tactic(auto)]
+
 ghost use Rattle.std.specs.Prelude.{◌≡◌, ◌≤◌, ◌-◌, length};
 ghost use Rattle.places.specs.Places.{record_len};
 ghost use Rattle.record_text.specs.Texts.{heading_part, body_in};

@@ -1,4 +1,6 @@
 // 01, "The numbers given back", and those of 02: the code's names for them, in the order and with the names of crates/grammar/specs/Refusals.antt.
+#![tactic(auto)]
+
 pub const NONE: u8 = 0;
 
 pub const BAD_MEMORY: u8 = 1;

@@ -1,4 +1,6 @@
 // The last line of a replay (02, Q-11): `refusal N` ended by LF.
+#![tactic(auto)]
+
 ghost use Rattle.std.specs.Prelude.{[], ◌∷◌, ◌++◌};
 ghost use Rattle.grammar.specs.Bytes.{LF};
 ghost use Rattle.grammar.specs.Fields.{decimal};

@@ -1,12 +1,11 @@
 // What our node would have made of a capture (02, Q-11): standard input, played to the called station of crates/capture. Writes the bytes that
 // it would send, then a line `refusal N`. No contract can name what is read and written, so all else is done in crates that have contracts.
+#![tactic(auto)]
+
 use buffer::Cursor;
 use capture::Played;
-
-// Standard input and output.
-const CAPTURE: i32 = 0;
-
-const LINK: i32 = 1;
+use std::io;
+use std::io::{Read, Write};
 
 // A read takes so many bytes at most.
 const PORTION: usize = 256;
@@ -25,65 +24,93 @@ const MOST_WAITING: usize = 32;
 
 const OUT: usize = MOST_WAITING * PORTION;
 
-// The first n bytes of out, to standard output.
-fn send(out: &[u8], n: usize) {
-    io::write_all(LINK, part::part(out, 0, n));
+// The first n bytes of out, to the link.
+fn send<W: Write>(link: &mut W, out: &[u8], n: usize) -> io::Result<()> {
+    link.write_all(part::part(out, 0, n))
 }
 
-// One read of standard input, played, and what our node sends, written. At the end of the input it is over for us.
-fn turn(session: &mut [u8], inbox: &mut [u8], store: &mut [u8], out: &mut [u8]) -> Played {
+// One read of the input, played, and what our node sends, written. At the end of the input it is over for us.
+fn turn<R: Read, W: Write>(
+    input: &mut R,
+    link: &mut W,
+    session: &mut [u8],
+    inbox: &mut [u8],
+    store: &mut [u8],
+    out: &mut [u8],
+) -> io::Result<Played> {
     let mut portion = [0u8; PORTION];
-    let got = libc::read(CAPTURE, &mut portion);
-    if got <= 0 {
-        return Played {
+    let n = input.read(&mut portion)?;
+    if n == 0 {
+        return Ok(Played {
             refusal: refusal::NONE,
             over: true,
             count: 0,
-        };
+        });
     }
-    let n = io::count(got, &portion);
     let p = capture::play(session, inbox, store, &portion[..n], out);
-    send(out, p.count);
-    p
+    send(link, out, p.count)?;
+    Ok(p)
 }
 
-// All of standard input, and the number of the refusal, 0 if there was none. A proved loop has to end: it counts down from a number that no
-// run uses up.
-fn play_all(session: &mut [u8], inbox: &mut [u8], store: &mut [u8], out: &mut [u8]) -> u8 {
+// All of the input, and the number of the refusal, 0 if there was none. A proved loop has to end: it counts down from a number that no run
+// uses up.
+fn play_all<R: Read, W: Write>(
+    input: &mut R,
+    link: &mut W,
+    session: &mut [u8],
+    inbox: &mut [u8],
+    store: &mut [u8],
+    out: &mut [u8],
+) -> io::Result<u8> {
     let mut turns = u64::MAX;
     while turns > 0 {
-        let p = turn(session, inbox, store, out);
+        let p = turn(input, link, session, inbox, store, out)?;
         if p.over {
-            return p.refusal;
+            return Ok(p.refusal);
         }
         turns -= 1;
     }
-    refusal::NONE
+    Ok(refusal::NONE)
 }
 
 // The whole replay, and the number of the refusal.
-fn replay(session: &mut [u8], inbox: &mut [u8], store: &mut [u8], out: &mut [u8]) -> u8 {
+fn replay<R: Read, W: Write>(
+    input: &mut R,
+    link: &mut W,
+    session: &mut [u8],
+    inbox: &mut [u8],
+    store: &mut [u8],
+    out: &mut [u8],
+) -> io::Result<u8> {
     let p = capture::play_start(session, inbox, store, out);
-    send(out, p.count);
+    send(link, out, p.count)?;
     if p.over {
-        return p.refusal;
+        return Ok(p.refusal);
     }
-    play_all(session, inbox, store, out)
+    play_all(input, link, session, inbox, store, out)
 }
 
 // The last line.
-fn tell(n: u8) {
+fn tell<W: Write>(link: &mut W, n: u8) -> io::Result<()> {
     let mut line = [0u8; MOST_WAITING];
     let c = refusal_line::write_refusal(n, &mut line, Cursor { at: 0, skip: 0 });
-    send(&line, c.at);
+    send(link, &line, c.at)
 }
 
 // The memory that is lent, and a buffer with room for what each byte of a portion brings.
-fn main() {
+fn main(rt: HostRuntime) -> io::Result<()> {
     let mut session = [0u8; SESSION];
     let mut inbox = [0u8; INBOX];
     let mut store = [0u8; LENT_BYTES];
     let mut out = [0u8; OUT];
-    let n = replay(&mut session, &mut inbox, &mut store, &mut out);
-    tell(n);
+    let mut link = rt.stdout();
+    let n = replay(
+        &mut rt.stdin(),
+        &mut link,
+        &mut session,
+        &mut inbox,
+        &mut store,
+        &mut out,
+    )?;
+    tell(&mut link, n)
 }

@@ -1,4 +1,6 @@
 // A line read as a routing header, in either form of 003. The mailbox is shown where it lies in the line; nothing is copied.
+#![tactic(auto)]
+
 ghost use Rattle.std.specs.Prelude.{◌≡◌, ◌≤◌, length, drop};
 ghost use Rattle.grammar.specs.Fields.{read_size};
 ghost use Rattle.span.specs.Places.{part, Lies};

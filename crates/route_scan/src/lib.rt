@@ -1,4 +1,6 @@
 // Places in a routing header: white space, the zone letter, two bytes that mark a field.
+#![tactic(auto)]
+
 ghost use Rattle.std.specs.Prelude.{◌≡◌, ◌+◌, drop, get_or};
 ghost use Rattle.route.specs.Routes.{is_white, whites, is_letter, is_gmt, begins_with_two, mark_end, past_zone};
 

@@ -1,4 +1,6 @@
 // Our routing header, written with its CR in front of a body into a second buffer.
+#![tactic(auto)]
+
 ghost use Rattle.std.specs.Prelude.{◌≡◌, true, [], ◌∷◌, ◌++◌, ◌<◌};
 ghost use Rattle.grammar.specs.Bytes.{CR};
 ghost use Rattle.buffer.specs.Put.{Puts};

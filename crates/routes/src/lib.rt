@@ -1,4 +1,6 @@
 // The routing headers of a body, one after another from the top, and the mailbox where the message began.
+#![tactic(auto)]
+
 ghost use Rattle.std.specs.Prelude.{◌≡◌};
 ghost use Rattle.route.specs.Routes.{route_of, origin_of};
 ghost use Rattle.routes.specs.Meaning.{NextHeaderIs, OriginIs};

@@ -1,4 +1,6 @@
 // What a whole line or message leaves: marks in the table, our turn, or a session that is over.
+#![tactic(auto)]
+
 ghost use Rattle.std.specs.Prelude.{◌≡◌, length};
 ghost use Rattle.grammar.specs.Bytes.{Bytes};
 ghost use Rattle.places.specs.Places.{arrays_len};

@@ -1,10 +1,12 @@
 // THE TALLY SHEET of a session (02, Q-3): what became of the records that we proposed. Each event is a function that changes the sheet where it lies,
 // over one that makes the new sheet by value; a caller who holds the sheet by value has a third.
+#![tactic(auto)]
+
 ghost use Rattle.std.specs.Prelude.{◌≡◌};
 ghost use Rattle.sheet.specs.Sheet.{more, less, count_proposed, count_forwarded, count_declined, count_deferred};
 
 // unsettled: proposed, and the FS line hasn't come, or accepted and not forwarded yet. proposed is the sum of the other four.
-#[derive(Drop)]
+#[derive(Clone, Copy)]
 pub struct Sheet {
     pub proposed: u8,
     pub forwarded: u8,

@@ -1,4 +1,6 @@
 // The SID: the line in brackets in which a mailbox says its features.
+#![tactic(auto)]
+
 ghost use Rattle.std.specs.Prelude.{◌≡◌, true, not, ◌&&◌, ◌≤◌, ◌<◌, length};
 ghost use Rattle.std.proofs.Math.Option.{none, some};
 ghost use Rattle.grammar.specs.Bytes.{null, every, split_at};

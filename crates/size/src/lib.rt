@@ -1,4 +1,6 @@
 // Decimal numbers, and an announced size, which has 1 to 9 digits.
+#![tactic(auto)]
+
 ghost use Rattle.std.specs.Prelude.{◌≡◌, true, ◌^◌, ◌<◌, length};
 ghost use Rattle.grammar.specs.Fields.{digit, field, read_from, read_size, decimal_digits};
 ghost use Rattle.size.specs.Meaning.{size_is, size_number, field_number};

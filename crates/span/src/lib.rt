@@ -1,10 +1,12 @@
 // The fields of a line by their places: the first byte of a kind, and the first field from a place on.
+#![tactic(auto)]
+
 ghost use Rattle.std.specs.Prelude.{◌≡◌, ◌+◌, ◌≤◌, ltb, length, drop};
 ghost use Rattle.grammar.specs.Fields.{words, starts};
 ghost use Rattle.span.specs.Places.{upto, words_by};
 
 // Where a field lies in its line: from start up to, not including, end.
-#[derive(Drop)]
+#[derive(Clone, Copy)]
 pub struct Span {
     pub start: usize,
     pub end: usize,

@@ -1,4 +1,6 @@
 // How many records wait for a partner, and the sum of their announced sizes (02, Q-3), counted in the table.
+#![tactic(auto)]
+
 ghost use Rattle.std.specs.Prelude.{◌≡◌};
 ghost use Rattle.tally.specs.Tally.{counted};
 

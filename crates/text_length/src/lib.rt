@@ -1,4 +1,6 @@
 // How long our lines and transfers are, without writing them.
+#![tactic(auto)]
+
 ghost use Rattle.std.specs.Prelude.{◌≡◌, [], ◌+◌, ◌-◌, ◌≤◌, length};
 ghost use Rattle.grammar.specs.Fields.{decimal, body_max, decimal_digits};
 ghost use Rattle.grammar.specs.Turns.{with_cr, proposal_line};

@@ -1,4 +1,6 @@
 // The lines of a body, one after another, by their places.
+#![tactic(auto)]
+
 ghost use Rattle.std.specs.Prelude.{◌≡◌, ◌+◌, drop};
 ghost use Rattle.text_line.specs.Places.{leading_lf, text_line_at};
 

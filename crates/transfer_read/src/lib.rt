@@ -1,4 +1,6 @@
 // A transfer read byte by byte, in any portions, into lent memory: its heading into an array of 80 bytes, its body into a store.
+#![tactic(auto)]
+
 ghost use Rattle.std.specs.Prelude.{◌≡◌, ◌+◌, ◌≤◌, min, [], ◌∷◌, length};
 ghost use Rattle.std.proofs.lemmas.List.Edits.{sets};
 ghost use Rattle.transfer_step.specs.Step.{step_of, goes_on};

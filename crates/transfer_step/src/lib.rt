@@ -1,4 +1,6 @@
 // One byte of a transfer, judged by numbers alone.
+#![tactic(auto)]
+
 ghost use Rattle.std.specs.Prelude.{◌≡◌, ◌+◌, ◌≤◌, min, length};
 ghost use Rattle.transfer_step.specs.Step.{start_of, title_step, body_step, mark_step, begin_step, length_step, heading_step, offset_step, data_step, size_step, sum_step, step_of, reading_goes_on, reading_ends};
 
@@ -72,7 +74,7 @@ pub const TO_BODY: u8 = 2;
 
 // The reading so far in numbers. place: 0 title, 1 body, 2 mark, 3 start, 4 L, 5 heading, 6 offset, 7 data or block, 8 n, any other: checksum.
 // len: L; head, off, body: bytes of heading, offset and body so far; left: bytes of the block to come; sum: data bytes' sum modulo 256.
-#[derive(Drop)]
+#[derive(Clone, Copy)]
 pub struct Reader {
     pub place: u8,
     pub len: u8,
@@ -84,7 +86,7 @@ pub struct Reader {
 }
 
 // What the bytes so far are: the beginning of a transfer, a whole one, or refused (8, 9, 10).
-#[derive(Drop)]
+#[derive(Clone, Copy)]
 pub enum ReadOutcome {
     More,
     Whole,
@@ -95,7 +97,7 @@ pub enum ReadOutcome {
 
 // One byte's outcome, the reading after it (before it, unless it goes on), and where the byte goes:
 // 0 nowhere, 1 to the heading at index head of the reading before it, 2 to the body at index body.
-#[derive(Drop)]
+#[derive(Clone, Copy)]
 pub struct ReadStep {
     pub outcome: ReadOutcome,
     pub reader: Reader,

@@ -1,4 +1,6 @@
 // Our transfers, resumed at any byte with any room: the text at the cursor, what of it isn't passed over and fits. Nothing is judged.
+#![tactic(auto)]
+
 ghost use Rattle.std.specs.Prelude.{◌+◌, ◌*◌, ◌%◌, ◌≤◌, ◌<◌, min, ◌≡◌, [], ◌∷◌, length};
 ghost use Rattle.grammar.specs.Transfers.{write_plain, write_framed, header_out, blocks_out, checksum, part_of, heading_of, data_max};
 ghost use Rattle.buffer.specs.Put.{Puts};

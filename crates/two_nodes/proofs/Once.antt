@@ -12,7 +12,7 @@ use Rattle.mail.specs.Mail.{Message, message_of, accepted}
 use Rattle.session.specs.Choices.{Shelf, among, message_bids, proposal_bids, have_bid, no_room_for, with_accepted, answers_after, answers_to, chosen}
 use Rattle.session.specs.Session.{kind_due, Awaited, Phase, a_line, awaits_transfer, leaving, over, Memory, Session, Outcome, refuses, goes_on, speaking, turn_marks, answering, Stepped, settled, is_plain, kept_in, next_transfer, step, opened, with_out}
 use Rattle.session.proofs.Ways.{LineOutcome, is_wrong, hears_sid, hears_text, hears_prompt, hears_proposal, hears_ff, hears_fq, hears_end, hears_fs, RuleDecides, Way, is_refused, drops_lf, grows_line, ignores_line, hears_line, reads_on, reads_last, way}
-use Rattle.log.specs.Log.{Event, took, gave}
+use Rattle.session_log.specs.Log.{Event, took, gave}
 use Rattle.demand3.specs.Demand.{Call, run}
 use Rattle.two_nodes.specs.Once.{has_bid, EachNew, KeptOnce}
 use Rattle.two_nodes.proofs.Traces.{later_bytes, session_after, run-possible}

@@ -2,7 +2,7 @@
 use Rattle.std.specs.Prelude.{◌≡◌, true, false, not, List, [], ◌∷◌, ◌++◌, ℕ, get_or}
 use Rattle.mail.specs.Mail.{Record, Message, record_at}
 use Rattle.session.specs.Choices.{message_bids, have_bid}
-use Rattle.log.specs.Log.{Event}
+use Rattle.session_log.specs.Log.{Event}
 use Rattle.entries.specs.Decoded.{records_of, known_bids}
 use Rattle.marking.specs.States.{states_of}
 use Rattle.represents.specs.Represents.{messages_of}

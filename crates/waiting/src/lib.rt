@@ -1,4 +1,6 @@
 // What waits for give, in pieces: the first one, which may be empty, then each line or transfer after it.
+#![tactic(auto)]
+
 ghost use Rattle.std.specs.Prelude.{◌≡◌, min, length};
 ghost use Rattle.grammar.specs.Bytes.{Bytes};
 ghost use Rattle.session_memory.specs.State.{load_of};

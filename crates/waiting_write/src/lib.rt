@@ -1,4 +1,6 @@
 // What waits for give, written from the table and its stores, resumed at any byte with any room.
+#![tactic(auto)]
+
 ghost use Rattle.std.specs.Prelude.{◌≡◌, [], ◌-◌, ◌<◌, ◌≤◌, length, get_or, drop};
 ghost use Rattle.grammar.specs.Turns.{with_cr, proposal_line};
 ghost use Rattle.mail.specs.Mail.{proposal_of, transfer_of};

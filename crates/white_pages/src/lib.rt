@@ -1,4 +1,6 @@
 // A white-pages mail: its lines one after another, by their places, and what it holds as a whole.
+#![tactic(auto)]
+
 ghost use Rattle.std.specs.Prelude.{◌≡◌, ◌+◌, ◌<◌};
 ghost use Rattle.grammar.specs.Bytes.{word_values};
 ghost use Rattle.pages.specs.Pages.{higher, survey_of};

@@ -1,5 +1,7 @@
 // The tests of the protocol's words for callers from C and Rust, answered by 1 or 0. They serve tests and benchmarks; the product's own calls are in the
 // crate fringemole.
+#![tactic(auto)]
+
 ghost use Rattle.std.specs.Prelude.{◌≡◌};
 ghost use Rattle.grammar.specs.Bytes.{flag};
 ghost use Rattle.grammar.specs.Fields.{is_size, same_bid};

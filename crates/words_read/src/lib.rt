@@ -1,5 +1,7 @@
 // The readers of the protocol's words for callers from C and Rust, in numbers and byte slices. They serve tests and benchmarks; the
 // product's own calls are in the crate fringemole.
+#![tactic(auto)]
+
 ghost use Rattle.std.specs.Prelude.{◌≡◌, length, take};
 ghost use Rattle.grammar.specs.Lines.{trim, line_byte};
 ghost use Rattle.grammar.specs.Sid.{read_sid, sid_number};

@@ -1,5 +1,7 @@
 // Transfers for callers from C and Rust: read byte by byte in any portions, the checksum, and where a heading lies. They serve tests and
 // benchmarks; the product's own calls are in the crate fringemole.
+#![tactic(auto)]
+
 ghost use Rattle.std.specs.Prelude.{◌≡◌, ◌%◌};
 ghost use Rattle.grammar.specs.Transfers.{checksum, heading_of};
 ghost use Rattle.transfer_step.specs.Step.{start_of};

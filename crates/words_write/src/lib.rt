@@ -1,5 +1,7 @@
 // The writers of the protocol's words for callers from C and Rust, each resumed at any byte with any room; how many bytes were written is
 // answered. They serve tests and benchmarks; the product's own calls are in the crate fringemole.
+#![tactic(auto)]
+
 ghost use Rattle.std.specs.Prelude.{◌≡◌};
 ghost use Rattle.grammar.specs.Turns.{with_cr, proposal_line};
 ghost use Rattle.grammar.specs.Transfers.{write_plain, write_framed};

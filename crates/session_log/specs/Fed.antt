@@ -3,7 +3,7 @@
 use Rattle.std.specs.Prelude.{Bool, false, cond, ◌&&◌, List, [], ◌∷◌, ◌++◌, ℕ, eqb}
 use Rattle.grammar.specs.Bytes.{Bytes, LF}
 use Rattle.mail.specs.Mail.{Record}
-use Rattle.log.specs.Log.{Event, took, gave, Log, is_ours, whole, applied, stopped, with_after_cr}
+use Rattle.session_log.specs.Log.{Event, took, gave, Log, is_ours, whole, applied, stopped, with_after_cr}
 
 pub record Fed : Type 0 where
   pub log : Log

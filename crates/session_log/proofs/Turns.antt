@@ -19,13 +19,13 @@ use Rattle.grammar.specs.Answers.{Sign, cons_o, read_fs}
 use Rattle.grammar.specs.Transfers.{byte_sum, sum_right}
 use Rattle.grammar.proofs.Basics.{Lacks}
 use Rattle.mail.specs.Mail.{Record, turn_text}
-use Rattle.log.specs.Effects.{forwarded_sent, accepted_by, declined_by, Account, with_proposed, with_answers, with_forwarded}
-use Rattle.log.specs.Log.{course_with, after_theirs, their_new_turn, our_new_turn, effect, they_say, Event, took, gave, their_turn, their_answer, Book, unfinished, turn, said, place_found, places_of, our_proposed, ours_owed, after_ours, Effect, with_states, after_their_turn, summed_end, checked, raw_with, their_turn_line, their_line, over, log}
-use Rattle.log.specs.Fed.{Fed, fed_byte, fed_all}
-use Rattle.log.proofs.Said.{goes_well, said_before, said_part, not_allowed-wrong}
-use Rattle.log.proofs.Spoken.{AllFit, turn_spoken, gave-spoken}
-use Rattle.log.proofs.Units.{Agrees, fed_opened, logs_agree, ended_stays, fed-append, theirs, line_fed, owing}
-use Rattle.log.proofs.Ends.{Stays}
+use Rattle.session_log.specs.Effects.{forwarded_sent, accepted_by, declined_by, Account, with_proposed, with_answers, with_forwarded}
+use Rattle.session_log.specs.Log.{course_with, after_theirs, their_new_turn, our_new_turn, effect, they_say, Event, took, gave, their_turn, their_answer, Book, unfinished, turn, said, place_found, places_of, our_proposed, ours_owed, after_ours, Effect, with_states, after_their_turn, summed_end, checked, raw_with, their_turn_line, their_line, over, log}
+use Rattle.session_log.specs.Fed.{Fed, fed_byte, fed_all}
+use Rattle.session_log.proofs.Said.{goes_well, said_before, said_part, not_allowed-wrong}
+use Rattle.session_log.proofs.Spoken.{AllFit, turn_spoken, gave-spoken}
+use Rattle.session_log.proofs.Units.{Agrees, fed_opened, logs_agree, ended_stays, fed-append, theirs, line_fed, owing}
+use Rattle.session_log.proofs.Ends.{Stays}
 
 -- ---------------------------------------------------------------- lines as they come
 

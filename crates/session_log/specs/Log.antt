@@ -13,7 +13,7 @@ use Rattle.grammar.specs.Turns.{Proposal, TurnLine, says_ff, says_fq, ends_block
 use Rattle.grammar.specs.Answers.{Sign, cons_o, read_fs, Level, level0}
 use Rattle.grammar.specs.Transfers.{TransferKind, plain_kind, framed_kind, kind_of, Content, read_transfer, sum_right}
 use Rattle.mail.specs.Mail.{Record, Message, record_at, transfer_of, place_of}
-use Rattle.log.specs.Effects.{forwarded_sent, accepted_by, declined_by, Account, no_account, with_proposed, with_sent, with_answers, with_forwarded, kept_as}
+use Rattle.session_log.specs.Effects.{forwarded_sent, accepted_by, declined_by, Account, no_account, with_proposed, with_sent, with_answers, with_forwarded, kept_as}
 
 -- ---------------------------------------------------------------- what the log is fed and what it keeps
 
