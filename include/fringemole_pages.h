@@ -1,5 +1,5 @@
 /* Fringemole: white pages, the WPROT mails that say where a callsign has its home mailbox, and the dates of the older ones. Proved; see
- * docs/PROOF.md. An archive of its own, libfringemole_pages.a (`rt staticlib fringemole_pages`); it needs neither a session nor another archive.
+ * docs/PROOF.md. An archive of its own, libfringemole_pages.a (`.ci/archives fringemole_pages`); it needs neither a session nor another archive.
  *
  * Nothing is copied or kept: what is read is shown by its places in the lent mail. Every call answers and ends, whatever bytes are lent.
  * An empty buffer may be NULL with length 0.

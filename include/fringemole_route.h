@@ -1,5 +1,5 @@
 /* Fringemole: routing headers, the R: lines at the top of a message's body. Proved; see docs/PROOF.md. An archive of its own,
- * libfringemole_route.a (`rt staticlib fringemole_route`); it needs neither a session nor the other archive.
+ * libfringemole_route.a (`.ci/archives fringemole_route`); it needs neither a session nor the other archive.
  *
  * Nothing is copied or kept: what is read is shown by its places in the lent body. Every call answers and ends, whatever bytes are lent.
  * An empty buffer may be NULL with length 0. The buffer that is written may not overlap those that are read.

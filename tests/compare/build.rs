@@ -1,4 +1,4 @@
-//! Links the proved library, one archive for each of its crates (built by `rt staticlib`).
+//! Links the proved library, one archive for each of its crates (built by `.ci/archives`).
 
 use std::env;
 use std::path::{Path, PathBuf};

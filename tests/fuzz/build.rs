@@ -1,4 +1,4 @@
-//! Links the proved library (`rt staticlib fringemole`).
+//! Links the proved library (`.ci/archives fringemole`).
 
 use std::env;
 use std::path::{Path, PathBuf};

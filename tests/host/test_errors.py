@@ -172,7 +172,7 @@ class Helpful(Folder):
         "make without the library gets a sentence that helps"
         done = subprocess.run(["make", "-s", "-C", HOST / "host", "LIB=/nowhere", "BUILD=" + str(self.folder / "build"), "CFLAGS=-O0"], capture_output=True)
         self.assertNotEqual(done.returncode, 0)
-        self.assertIn(b"There is no /nowhere/libfringemole.a: prove and build the library first (rt staticlib fringemole)", done.stderr)
+        self.assertIn(b"There is no /nowhere/libfringemole.a: prove and build the library first (.ci/archives fringemole)", done.stderr)
 
     def test_depends(self):
         "a header that changed makes the objects that include it again, however the folder is spelled"

@@ -74,7 +74,7 @@ class Replayed(Folder):
     def test_program(self):
         "and on captures of our own those of the program itself"
         if not PROGRAM.exists():
-            self.skipTest("the program is not built (rt check replay)")
+            self.skipTest("the program is not built (.ci/archives replay)")
         for capture in (b"", b"[TST-1-F$]\r\nFF\r\n", BLOCK + HELLO.transfer() + b"FQ\r", BLOCK + b"x", b"Hello\r", b"[TST-1-F$]\r" + b"A" * 300, bytes(range(256)) * 20):
             done = subprocess.run([PROGRAM], input=capture, stdout=subprocess.PIPE, check=True, timeout=PATIENCE)
             host = subprocess.run([PLAIN, "replay", "-"], input=capture, stdout=subprocess.PIPE, timeout=PATIENCE)
@@ -85,7 +85,7 @@ class Replayed(Folder):
         blocks = re.findall(r"(?m)^    (\S.*)\n\n((?:    .*\n)+)", (ROOT / "README.md").read_text().split("## What would we have made of a capture?")[1].split("\n## ")[0])
         self.assertEqual([command.split()[0] for command, _ in blocks], ["fringemole", "printf", "fringemole-replay"])
         if not PROGRAM.exists():
-            self.skipTest("the program is not built (rt check replay)")
+            self.skipTest("the program is not built (.ci/archives replay)")
         names = self.folder / "bin"
         names.mkdir()
         (names / "fringemole").symlink_to(PLAIN)

@@ -1,4 +1,4 @@
-//! Links the proved library (`rt staticlib fringemole_pages`).
+//! Links the proved library (`.ci/archives fringemole_pages`).
 
 use std::env;
 use std::path::{Path, PathBuf};

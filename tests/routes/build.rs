@@ -1,4 +1,4 @@
-//! Links the proved library (`rt staticlib fringemole_route`).
+//! Links the proved library (`.ci/archives fringemole_route`).
 
 use std::env;
 use std::path::{Path, PathBuf};

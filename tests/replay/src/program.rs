@@ -12,12 +12,12 @@ pub struct Program {
 }
 
 impl Program {
-    /// `FRINGEMOLE_REPLAY`, or what `rt check replay` has left in `target/bin`.
+    /// `FRINGEMOLE_REPLAY`, or what `.ci/archives replay` has left in `target/bin`.
     pub fn find() -> Result<Program, String> {
         let ours = Path::new(env!("CARGO_MANIFEST_DIR")).join("../../target/bin/replay");
         let path = std::env::var_os("FRINGEMOLE_REPLAY").map_or(ours, PathBuf::from);
         if !path.exists() {
-            return Err(format!("{} is not there: rt check replay makes it", path.display()));
+            return Err(format!("{} is not there: .ci/archives replay makes it", path.display()));
         }
         let capture = std::env::temp_dir().join(format!("replay.{}", std::process::id()));
         Ok(Program { path, capture })
