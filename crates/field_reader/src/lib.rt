@@ -1,6 +1,5 @@
 // The field reader of 01: it goes along a received line and hands out one field at a time. It is a struct that holds the line
-// and a place in it. The automatic proof covers no function over such a struct, so these are few and thin, and walked by hand;
-// the work is done by `field_at`, on the line and the place, which is covered.
+// and a place in it, and a thin one: the work is done by `field_at`, on the line and the place.
 #![tactic(auto)]
 
 ghost use Rattle.std.specs.Prelude.{◌≡◌, ◌≤◌, length, drop};
