@@ -21,7 +21,7 @@ portion_read f hd st = record { fed = f; heading = hd; store = st }
 abbrev pub room_of : Bytes → ℕ
 room_of st = min (length st) body_max
 
--- The heading's array after a byte: at index head of the reading before it. (`set` past the end changes nothing.)
+-- The heading's array after a byte: at index head of the reading before it. (`slice_set` past the end changes nothing.)
 unfoldable pub heading_put : ℕ → Reader → ℕ → Bytes → Bytes
 heading_put put r b hd = cond (put == to_heading) (slice_set hd r.head b) hd
 
