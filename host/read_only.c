@@ -8,8 +8,8 @@
 #include <sys/stat.h>
 
 #define COPY_TRIES 10
-#define READ_TRIES 20
-#define READ_PAUSE (SECOND / 20)
+#define READ_TRIES 200
+#define READ_PAUSE (SECOND / 200)
 
 static bool there(const struct base *base, const char *ending)
 {
