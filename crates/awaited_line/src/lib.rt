@@ -1,91 +1,86 @@
 // A whole line, judged by what is awaited.
 #![tactic(auto)]
 
-ghost use Rattle.std.specs.Prelude.{◌≡◌, length};
-ghost use Rattle.places.specs.Places.{arrays_len};
-ghost use Rattle.numbers.specs.Whole.{Arrays, session_of, whole_of};
+ghost use Rattle.std.specs.Prelude.{◌≡◌, Ok};
+ghost use Rattle.refusal.specs.Numbers.{refusal_number};
+ghost use Rattle.sid.specs.Meaning.{no_partner_number};
+ghost use Rattle.numbers.specs.Whole.{Arrays, with_deferred, with_block, session_of};
 ghost use Rattle.line_effect.specs.Judge.{sid_line, text_line, judge_of};
-ghost use Rattle.line_effect.specs.Verdict.{judged_of, judged_in};
+ghost use Rattle.line_effect.specs.Verdict.{judged_of};
 
-use line_effect::{Verdict, refusal, unmarked, went};
+use line_effect::{Turn, Verdict, unmarked, went};
 use next_awaited::to_turn;
 use numbers::Numbers;
+use refusal::Refusal;
+use sid::NoPartner;
+
+// Why a station that is no partner is refused.
+fn refused(cause: NoPartner) -> Refusal
+    ensures { refusal_number result ≡ no_partner_number cause }
+{
+    match cause {
+        NoPartner::NotASid => Refusal::NotSid,
+        NoPartner::NoForwarding(_) => Refusal::NoForwarding,
+    }
+}
 
 // The partner's SID.
-fn sid_line(line: &[u8], s: Numbers) -> Verdict
-    ensures { (a : Arrays) → judged_of result a ≡ sid_line line.now (session_of s a) }
+fn sid_line(line: &[u8], s: &mut Numbers) -> Result<Verdict, Refusal>
+    ensures { (a : Arrays) → judged_of result s.new a ≡ sid_line line.now (session_of s.old a) }
 {
-    let r = sid::read_sid(line);
-    if r.number != refusal::NONE {
-        return refusal(r.number, s);
-    }
-    let mut keep = s.keep;
-    keep.framed = features::is_framed(r.features);
-    let level = features::in_force(r.features);
-    keep.terms.level = level;
-    let mut t = s;
-    t.keep = keep;
+    let features = match sid::read_sid(line) {
+        Ok(features) => features,
+        Err(cause) => return Err(refused(cause)),
+    };
+    s.keep.framed = features.is_framed();
+    s.keep.terms.level = features.in_force();
     if s.now.phase == phase::CALLER_SID {
-        t.now.phase = phase::PROMPT;
-        return went(t);
+        s.now.phase = phase::PROMPT;
+    } else {
+        to_turn(&mut s.now, false);
     }
-    let awaited = s.now;
-    t.now = to_turn(awaited, false);
-    went(t)
+    Ok(went())
 }
 
 // A text line of the called station before its prompt, or the prompt.
-fn text_line(line: &[u8], s: Numbers) -> Verdict
-    ensures { (a : Arrays) → judged_of result a ≡ text_line line.now (session_of s a) }
+#[tactic(auto, unfolding(line_effect::specs::Judge::text_line))]
+fn text_line(line: &[u8], s: &mut Numbers) -> Verdict
+    ensures { (a : Arrays) → judged_of (Ok result) s.new a ≡ text_line line.now (session_of s.old a) }
 {
     if line::is_prompt(line) {
-        let mut t = s;
-        t.say.first = phase::PIECE_SID;
+        s.say.first = phase::PIECE_SID;
         return Verdict {
-            answer: refusal::NONE,
-            speaks: phase::OUR_TURN,
+            turn: Turn::Ours,
             marks: unmarked(),
-            next: t,
         };
     }
-    went(s)
+    went()
 }
 
-// The line as it came, without its CR, by what is awaited. mem: the state's arrays; a line of the partner's turn may change the block, an FS
-// line the flags of deferred records.
+// The line as it came, without its CR, by what is awaited: a line of the partner's turn may change the block, an FS line the flags of deferred
+// records.
 pub fn judge(
     line: &[u8],
-    s: Numbers,
-    mem: &mut [u8],
+    s: &mut Numbers,
+    deferred: &mut [u8],
+    block: &mut [u8],
     table: &[u8],
     known: &[u8],
     inbox: &[u8],
     store: usize,
-) -> Verdict
-    requires { length mem.old ≡ arrays_len }
-    ensures { judged_in result mem.new ≡ judge_of line.now (whole_of s mem.old) table.now known.now inbox.now store }
+) -> Result<Verdict, Refusal>
+    ensures { (a : Arrays) → judged_of result s.new (with_deferred deferred.new (with_block block.new a)) ≡ judge_of line.now (session_of s.old (with_deferred deferred.old (with_block block.old a))) table.now known.now inbox.now store }
 {
     let n = line::trimmed(line);
     if line::is_comment(&line[..n]) {
-        return went(s);
+        return Ok(went());
     }
-    let awaited = s.now.phase;
-    // a SID, whoever called; one call of its reader, so that it has no frame of its own on the stack
-    if awaited < phase::PROMPT {
-        return sid_line(&line[..n], s);
-    }
-    match awaited {
-        phase::PROMPT => text_line(&line[..n], s),
-        phase::TURN => partner_turn::turn_line(
-            line,
-            s,
-            &mut mem[places::BLOCK..places::AFTER_BLOCK],
-            table,
-            known,
-            inbox,
-            store,
-        ),
-        phase::FS => fs_effect::answer_line(&line[..n], s, &mut mem[..places::HEADING]),
-        _ => refusal(refusal::LINE_NOT_ALLOWED, s),
+    match s.now.phase {
+        // one arm, so that the SID's reader has no frame of its own on the stack
+        phase::CALLED_SID | phase::CALLER_SID => sid_line(&line[..n], s),
+        phase::PROMPT => Ok(text_line(&line[..n], s)),
+        phase::TURN => partner_turn::turn_line(line, s, block, table, known, inbox, store),
+        phase::FS => fs_effect::answer_line(&line[..n], s, deferred),
+        _ => Err(Refusal::LineNotAllowed),
     }
 }

@@ -3,6 +3,7 @@
 use Rattle.std.specs.Prelude.{ℕ, ◌+◌, ◌-◌, ◌≡◌, refl, cond, [], ◌∷◌, ◌++◌, ltb, length, take, drop}
 use Rattle.grammar.specs.Bytes.{Bytes}
 use Rattle.buffer.specs.declared.Cursor.{Cursor}
+use Rattle.buffer.specs.declared.Writer.{Writer}
 
 -- d with p written over it from index at on: "no other byte of the buffer changes"
 abbrev pub wrote : Bytes → ℕ → Bytes → Bytes
@@ -32,6 +33,11 @@ example_cursor = refl
 -- The contract of every writer: the text p, put into the buffer d at the cursor c, leaves the cursor r and the buffer e.
 abbrev pub Puts : Bytes → Cursor → Bytes → Cursor → Bytes → Type 0
 Puts d c p r e = (r ≡ put_cursor (length d) c p) × (e ≡ put_bytes d c p)
+
+-- The same of a writer: the text p leaves the writer v, which writes into the same lent buffer.
+pub record Takes (w : Writer) (p : Bytes) (v : Writer) : Type 0 where
+  pub same : v.buf.ghost_name ≡ w.buf.ghost_name
+  pub puts : Puts w.buf.now w.cursor p v.cursor v.buf.now
 
 -- The place where the next byte goes, and how many bytes of the text are passed over.
 abbrev pub cursor : ℕ → ℕ → Cursor

@@ -1,180 +1,155 @@
-// Bytes: the classes that the fields of 01 are made of, each decided by a match with ranges; and letters as capitals.
+//! Bytes: the classes that the fields of 01 are made of, hexadecimal digits, and letters as capitals.
 #![tactic(auto)]
 
-ghost use Rattle.std.specs.Prelude.{◌≡◌};
+ghost use Rattle.std.specs.Prelude.{◌≡◌, ◌<◌, IfSome};
+ghost use Rattle.std.specs.List.{list_all};
 ghost use Rattle.grammar.specs.Bytes.{every};
 ghost use Rattle.grammar.specs.Fields.{call_byte, bid_byte, heading_byte, not_ctrl_z, digit, upper, hex_digit, hex_pair};
 ghost use Rattle.grammar.specs.Sid.{author_byte, data_byte};
 ghost use Rattle.byte.specs.Classes.{class_of};
-ghost use Rattle.byte.specs.Hex.{hex_is};
+ghost use Rattle.byte.specs.Said.{said};
 
-// How many values a byte has.
+/// How many values a byte has.
 pub const BYTE_VALUES: usize = 256;
 
-// A small letter stands so much further on than its capital.
-const TO_SMALL: u8 = b'a' - b'A';
-
-// A decimal digit counts ten times the one after it, a hexadecimal one sixteen times.
+/// A decimal digit counts ten times the one after it.
 pub const DECIMAL_BASE: u8 = 10;
 
+// A hexadecimal digit counts sixteen times the one after it.
 const HEX_BASE: u8 = 16;
 
 // Hexadecimal `A` stands for ten.
 const BELOW_A: u8 = b'A' - DECIMAL_BASE;
 
-// The classes by name, so that a rule over a class is written and proved once.
-#[derive(Clone, Copy)]
+// What ends a plain body.
+const CTRL_Z: u8 = 0x1a;
+
+/// The classes by name, so that a rule over a class is written and proved once.
+#[derive(Clone, Copy, PartialEq, Eq)]
 pub enum Class {
+    /// Of from, to, or a part of at.
     Call,
+    /// Of a BID.
     Bid,
+    /// Of a title or a file name.
     Heading,
+    /// A decimal digit.
     Digit,
+    /// Of a SID's author.
     Author,
+    /// Of a SID's data.
     Data,
+    /// Of a plain body.
     PlainBody,
 }
 
-// What hexadecimal digits stand for, or no such digits.
-#[derive(Clone, Copy)]
-pub enum Hex {
-    Value(u8),
-    Other,
+impl Class {
+    /// The byte is of the class.
+    #[tactic(auto, unfolding(crate::specs::Classes::class_of))]
+    pub fn has(self, b: u8) -> bool
+        ensures { result ≡ class_of self b }
+    {
+        match self {
+            Class::Call => call_byte(b),
+            Class::Bid => bid_byte(b),
+            Class::Heading => heading_byte(b),
+            Class::Digit => digit_byte(b),
+            Class::Author => author_byte(b),
+            Class::Data => data_byte(b),
+            Class::PlainBody => plain_body_byte(b),
+        }
+    }
 }
 
-// A letter as a capital; any other byte as it is.
+/// A letter as a capital; any other byte as it is.
 pub fn upper_of(b: u8) -> u8
     ensures { result ≡ upper b }
 {
-    match b {
-        b'a'..=b'z' => b - TO_SMALL,
-        _ => b,
-    }
+    b.to_ascii_uppercase()
 }
 
-// A byte of from, to, or a part of at.
+/// A byte of from, to, or a part of at.
 pub fn call_byte(b: u8) -> bool
     ensures { result ≡ call_byte b }
 {
-    match b {
-        b'@' | b'.' => false,
-        0x21..=0x7e => true,
-        _ => false,
-    }
+    matches!(b, 0x21..=0x7e) && !matches!(b, b'@' | b'.')
 }
 
-// A byte of a BID.
+/// A byte of a BID.
 pub fn bid_byte(b: u8) -> bool
     ensures { result ≡ bid_byte b }
 {
-    match b {
-        0x21..=0xff => true,
-        _ => false,
-    }
+    b >= 0x21
 }
 
-// A byte of a title or a file name.
+/// A byte of a title or a file name.
 pub fn heading_byte(b: u8) -> bool
     ensures { result ≡ heading_byte b }
 {
-    match b {
-        0x20..=0xff => true,
-        _ => false,
-    }
+    b >= 0x20
 }
 
-// A decimal digit.
+/// A decimal digit.
 pub fn digit_byte(b: u8) -> bool
     ensures { result ≡ digit b }
 {
-    match b {
-        b'0'..=b'9' => true,
-        _ => false,
+    b.is_ascii_digit()
+}
+
+/// What a hexadecimal digit, in either case, stands for.
+#[tactic(auto, unfolding(grammar::specs::Fields::hex_digit))]
+pub fn hex_digit(b: u8) -> Option<u8>
+    ensures value { said result ≡ hex_digit b }
+    ensures below { IfSome result (λ n. n < 16) }
+{
+    match upper_of(b) {
+        u @ b'0'..=b'9' => Some(u - b'0'),
+        u @ b'A'..=b'F' => Some(u - BELOW_A),
+        _ => None,
     }
 }
 
-// A hexadecimal digit, in either case.
-pub fn hex_digit(b: u8) -> Hex
-    ensures { hex_is result ≡ hex_digit b }
+/// What two hexadecimal digits, the higher one first, stand for.
+pub fn hex_pair(high: u8, low: u8) -> Option<u8>
+    ensures { said result ≡ hex_pair (hex_digit high) (hex_digit low) }
 {
-    let u = upper_of(b);
-    match u {
-        b'0'..=b'9' => Hex::Value(u - b'0'),
-        b'A'..=b'F' => Hex::Value(u - BELOW_A),
-        _ => Hex::Other,
-    }
+    let a = hex_digit(high)?;
+    let b = hex_digit(low)?;
+    Some(a * HEX_BASE + b)
 }
 
-// Two hexadecimal digits, the higher one first.
-pub fn hex_pair(high: u8, low: u8) -> Hex
-    ensures { hex_is result ≡ hex_pair (hex_digit high) (hex_digit low) }
-{
-    let first = hex_digit(high);
-    let Hex::Value(a) = first else {
-        return Hex::Other;
-    };
-    let second = hex_digit(low);
-    let Hex::Value(b) = second else {
-        return Hex::Other;
-    };
-    Hex::Value(a * HEX_BASE + b)
-}
-
-// A byte of a SID's author.
+/// A byte of a SID's author.
 pub fn author_byte(b: u8) -> bool
     ensures { result ≡ author_byte b }
 {
-    match b {
-        b'-' | b'[' | b']' => false,
-        0x20..=0x7f => true,
-        _ => false,
-    }
+    matches!(b, 0x20..=0x7f) && !matches!(b, b'-' | b'[' | b']')
 }
 
-// A byte of a SID's data.
+/// A byte of a SID's data.
 pub fn data_byte(b: u8) -> bool
     ensures { result ≡ data_byte b }
 {
-    if author_byte(b) {
-        return true;
-    }
-    b == b'-'
+    author_byte(b) || b == b'-'
 }
 
-// A byte of a plain body.
+/// A byte of a plain body.
 pub fn plain_body_byte(b: u8) -> bool
     ensures { result ≡ not_ctrl_z b }
 {
-    match b {
-        0x1a => false,
-        _ => true,
-    }
+    b != CTRL_Z
 }
 
-// The byte is of the class.
-pub fn in_class(class: Class, b: u8) -> bool
-    ensures { result ≡ class_of class b }
+// Every byte is of the class, in the library's words.
+fn all_in(s: &[u8], class: Class) -> bool
+    ensures { result ≡ list_all (class_of class) s.now }
 {
-    match class {
-        Class::Call => call_byte(b),
-        Class::Bid => bid_byte(b),
-        Class::Heading => heading_byte(b),
-        Class::Digit => digit_byte(b),
-        Class::Author => author_byte(b),
-        Class::Data => data_byte(b),
-        Class::PlainBody => plain_body_byte(b),
-    }
+    s.iter().all(|b| class.has(*b))
 }
 
-// Every byte is of the class.
+/// Every byte is of the class.
+#[tactic(auto, using(crate::proofs::Every::every_is))]
 pub fn all_of(s: &[u8], class: Class) -> bool
     ensures { result ≡ every (class_of class) s.now }
 {
-    let mut i = 0;
-    while i < s.len() {
-        if !in_class(class, s[i]) {
-            return false;
-        }
-        i += 1;
-    }
-    true
+    all_in(s, class)
 }

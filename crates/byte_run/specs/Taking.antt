@@ -1,5 +1,5 @@
 -- Bytes that only make the line or the body under way longer, taken where the state stands in session memory.
-use Rattle.std.specs.Prelude.{◌≡◌, Bool, true, false, cond, ◌&&◌, [], ◌∷◌, ◌≤◌, eqb, length}
+use Rattle.std.specs.Prelude.{◌≡◌, Bool, true, false, cond, ◌&&◌, [], ◌∷◌, eqb, length}
 use Rattle.grammar.specs.Bytes.{Bytes, CR, LF}
 use Rattle.places.specs.Places.{session_len}
 use Rattle.layout.specs.Layout.{byte_at}

@@ -3,25 +3,19 @@
 #![tactic(auto)]
 
 ghost use Rattle.std.specs.Prelude.{◌≡◌, ◌&&◌, eqb, length};
-ghost use Rattle.grammar.specs.Bytes.{Bytes, LF};
+ghost use Rattle.std.specs.List.{list_any};
+ghost use Rattle.grammar.specs.Bytes.{Bytes, CR, LF};
 ghost use Rattle.phase.specs.Phase.{phase_transfer};
 ghost use Rattle.receive_defined.specs.Roomy.{Roomy};
-ghost use Rattle.byte_run.specs.Taking.{has_cr, Takes, TakesBytes, Quiet};
+ghost use Rattle.byte_run.specs.Taking.{Takes, TakesBytes, Quiet};
 
 use numbers::Numbers;
 
 // One of the bytes ends a line.
 fn has_cr(bytes: &[u8]) -> bool
-    ensures { result ≡ has_cr bytes.now }
+    ensures { result ≡ list_any (λ b. eqb b CR) bytes.now }
 {
-    let mut i = 0;
-    while i < bytes.len() {
-        if bytes[i] == line::CR {
-            return true;
-        }
-        i += 1;
-    }
-    false
+    bytes.iter().any(|b| *b == line::CR)
 }
 
 // Bytes of a line before its CR, as long as the line has room.
@@ -30,13 +24,7 @@ fn line_run(s: Numbers, bytes: &[u8], sm: &mut [u8]) -> bool
     ensures { (store : Bytes) → Takes result sm.old store bytes.now sm.new store }
 {
     let len = s.line.len as usize;
-    if line::LINE_LIMIT < len {
-        return false;
-    }
-    if line::LINE_LIMIT - len < bytes.len() {
-        return false;
-    }
-    if has_cr(bytes) {
+    if line::LINE_LIMIT < len || line::LINE_LIMIT - len < bytes.len() || has_cr(bytes) {
         return false;
     }
     buffer::put_whole(
@@ -53,13 +41,10 @@ fn body_run(s: Numbers, bytes: &[u8], sm: &mut [u8], store: &mut [u8]) -> bool
     requires { TakesBytes s sm.old bytes.now × Quiet s bytes.now × (s.now.phase ≡ phase_transfer) × Roomy s (length store.old) }
     ensures { Takes result sm.old store.old bytes.now sm.new store.new }
 {
-    let reader = s.reader;
     let used = s.keep.used;
-    let q = transfer_read::run_on(reader, bytes, &mut store[used..]);
-    if !q.all {
+    let Some(next) = transfer_read::run_on(s.reader, bytes, &mut store[used..]) else {
         return false;
-    }
-    let next = q.reader;
+    };
     numbers_in_place::put_read_so_far(sm, next);
     true
 }
@@ -68,10 +53,7 @@ fn body_run(s: Numbers, bytes: &[u8], sm: &mut [u8], store: &mut [u8]) -> bool
 pub fn is_dropped(after_cr: bool, b: u8) -> bool
     ensures { result ≡ after_cr && eqb b LF }
 {
-    if !after_cr {
-        return false;
-    }
-    b == line::LF
+    after_cr && b == line::LF
 }
 
 // Takes the bytes if all of them only make the line or the body under way longer; whether they do. s: the numbers in session memory.
@@ -79,12 +61,7 @@ pub fn take_run(s: Numbers, bytes: &[u8], sm: &mut [u8], store: &mut [u8]) -> bo
     requires { TakesBytes s sm.old bytes.now × Roomy s (length store.old) }
     ensures { Takes result sm.old store.old bytes.now sm.new store.new }
 {
-    let b = bytes[0];
-    if is_dropped(s.line.after_cr, b) {
-        return false;
-    }
-    let say = s.say;
-    if pending::is_waiting(say) {
+    if is_dropped(s.line.after_cr, bytes[0]) || pending::is_waiting(s.say) {
         return false;
     }
     if s.now.phase == phase::TRANSFER {

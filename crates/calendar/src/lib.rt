@@ -1,8 +1,8 @@
-// Whether year, month and day are a date of 1970 to 2069, and hour and minute a time.
+//! Whether year, month and day are a date of 1970 to 2069, and hour and minute a time.
 #![tactic(auto)]
 
 ghost use Rattle.std.specs.Prelude.{◌≡◌, ◌≤◌};
-ghost use Rattle.dates.specs.Dates.{days_in, is_date, is_time, february, last_month};
+ghost use Rattle.dates.specs.Dates.{days_in, is_date, is_time, last_month};
 ghost use Rattle.calendar.specs.Meaning.{date_is, time_is};
 
 pub const FIRST_YEAR: u16 = 1970;
@@ -25,7 +25,8 @@ const LAST_HOUR: u8 = 23;
 
 const LAST_MINUTE: u8 = 59;
 
-// A date, the year in full.
+/// A date, the year in full. Any numbers: whether they are a date says `is_valid`.
+// The month stays a number: `fringemole_route_add` takes any and `RouteHop` gives it, and `is_valid` is asked of all.
 #[derive(Clone, Copy)]
 pub struct Date {
     pub year: u16,
@@ -33,21 +34,11 @@ pub struct Date {
     pub day: u8,
 }
 
-// A time of day.
+/// A time of day. Any numbers: whether they are a time says `is_valid`.
 #[derive(Clone, Copy)]
 pub struct Time {
     pub hour: u8,
     pub minute: u8,
-}
-
-// How many days February has, in a long year or a short one.
-fn february(leap: bool) -> u8
-    ensures { result ≡ days_in leap february }
-{
-    if leap {
-        return LONG_FEBRUARY_DAYS;
-    }
-    FEBRUARY_DAYS
 }
 
 // How many days a month has, in a long year or a short one.
@@ -55,43 +46,33 @@ fn days_in(leap: bool, month: u8) -> u8
     requires { (1 ≤ month) × (month ≤ last_month) }
     ensures { result ≡ days_in leap month }
 {
-    if month == FEBRUARY {
-        return february(leap);
+    match month {
+        FEBRUARY if leap => LONG_FEBRUARY_DAYS,
+        FEBRUARY => FEBRUARY_DAYS,
+        4 | 6 | 9 | 11 => 30,
+        _ => 31,
     }
-    let lengths = [31u8, FEBRUARY_DAYS, 31, 30, 31, 30, 31, 31, 30, 31, 30, 31];
-    let i = (month - 1) as usize;
-    lengths[i]
 }
 
-// Month 1 to 12, and a day that fits the month.
-pub fn is_date(d: Date) -> bool
-    ensures { result ≡ is_date (date_is d) }
-{
-    if d.year < FIRST_YEAR {
-        return false;
+impl Date {
+    /// Month 1 to 12, and a day that fits the month; years 1970 to 2069.
+    #[tactic(auto, unfolding(dates::specs::Dates::is_date))]
+    pub fn is_valid(self) -> bool
+        ensures { result ≡ is_date (date_is self) }
+    {
+        (FIRST_YEAR..=LAST_YEAR).contains(&self.year)
+            && (1..=MONTHS).contains(&self.month)
+            && 1 <= self.day
+            && self.day <= days_in(self.year % CYCLE_YEARS == 0, self.month)
     }
-    if LAST_YEAR < d.year {
-        return false;
-    }
-    if d.month < 1 {
-        return false;
-    }
-    if MONTHS < d.month {
-        return false;
-    }
-    if d.day < 1 {
-        return false;
-    }
-    let days = days_in(d.year % CYCLE_YEARS == 0, d.month);
-    d.day <= days
 }
 
-// Hour to 23, minute to 59.
-pub fn is_time(t: Time) -> bool
-    ensures { result ≡ is_time (time_is t) }
-{
-    if LAST_HOUR < t.hour {
-        return false;
+impl Time {
+    /// Hour to 23, minute to 59.
+    #[tactic(auto, unfolding(dates::specs::Dates::is_time))]
+    pub fn is_valid(self) -> bool
+        ensures { result ≡ is_time (time_is self) }
+    {
+        self.hour <= LAST_HOUR && self.minute <= LAST_MINUTE
     }
-    t.minute <= LAST_MINUTE
 }

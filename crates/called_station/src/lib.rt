@@ -9,7 +9,7 @@ const CALLED: u8 = 0;
 
 const FIRST_PARTNER: u8 = 0;
 
-// Opens the session; what open answers.
+/// Opens the session; what open answers.
 pub fn open(session: &mut [u8], inbox: &[u8], store: &[u8]) -> u8
     ensures { record { answer = result; station = station session.new inbox.now store.now } ≡ opened_of (station session.old inbox.now store.now) }
 {
@@ -29,7 +29,7 @@ pub fn open(session: &mut [u8], inbox: &[u8], store: &[u8]) -> u8
     opened.answer
 }
 
-// What receive answers to these bytes.
+/// What receive answers to these bytes.
 pub fn hear(session: &mut [u8], inbox: &mut [u8], store: &mut [u8], bytes: &[u8]) -> u8
     ensures { record { answer = result; station = station session.new inbox.new store.new } ≡ heard_of (station session.old inbox.old store.old) bytes.now }
 {
@@ -41,7 +41,7 @@ pub fn hear(session: &mut [u8], inbox: &mut [u8], store: &mut [u8], bytes: &[u8]
     heard.answer
 }
 
-// What waits, behind the first n bytes of the buffer and as far as it has room; how many bytes stand there then.
+/// What waits, behind the first n bytes of the buffer and as far as it has room; how many bytes stand there then.
 pub fn take_given(session: &mut [u8], inbox: &[u8], store: &[u8], out: &mut [u8], n: usize) -> usize
     ensures { record { count = result; session = session.new; out = out.new } ≡ sent_of (station session.old inbox.now store.now) out.old n }
 {

@@ -6,9 +6,10 @@ ghost use Rattle.std.specs.Prelude.{◌≡◌};
 ghost use Rattle.called_station.specs.Station.{station};
 ghost use Rattle.capture.specs.Playing.{playing, unplayed, taken_of, play_start_of, play_step_of, play_of};
 
-// What has come of the capture so far: the answer of the last call, whether the session has ended, and how many bytes of the buffer our
-// node would have sent.
-#[derive(Drop)]
+/// What has come of the capture so far: the answer of the last call, whether the session has ended, and how many bytes of the buffer our
+/// node would have sent.
+// Stays: three facts, none of which says whether another is there; the theorem `replay_exact` of `replayed` speaks of each in every state.
+#[derive(Clone, Copy)]
 pub struct Played {
     pub refusal: u8,
     pub over: bool,
@@ -32,11 +33,11 @@ fn taken(
     Played {
         refusal: answer,
         over: now != refusal::NONE,
-        count: count,
+        count,
     }
 }
 
-// Opens the session and takes what waits.
+/// Opens the session and takes what waits.
 pub fn play_start(session: &mut [u8], inbox: &mut [u8], store: &mut [u8], out: &mut [u8]) -> Played
     ensures { playing result (station session.new inbox.new store.new) out.new ≡ play_start_of (station session.old inbox.old store.old) out.old }
 {
@@ -60,7 +61,7 @@ fn play_byte(
     taken(answer, session, inbox, store, out, p.count)
 }
 
-// A portion of the capture, byte by byte, up to an end.
+/// A portion of the capture, byte by byte, up to an end; what is sent begins the buffer.
 pub fn play(
     session: &mut [u8],
     inbox: &mut [u8],
@@ -75,13 +76,11 @@ pub fn play(
         over: false,
         count: 0,
     };
-    let mut i = 0;
-    while i < bytes.len() {
-        p = play_byte(p, bytes[i], session, inbox, store, out);
+    for b in bytes {
+        p = play_byte(p, *b, session, inbox, store, out);
         if p.over {
             return p;
         }
-        i += 1;
     }
     p
 }

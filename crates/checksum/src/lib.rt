@@ -44,7 +44,7 @@ struct Summed {
 fn add(a: u8, b: u8) -> u8
     ensures { result ≡ (a + b) % byte_values }
 {
-    std::num::wrapping_add_u8(a, b)
+    a.wrapping_add(b)
 }
 
 // The bytes one by one, added to t.
@@ -52,10 +52,8 @@ pub fn each(t: u8, s: &[u8]) -> u8
     ensures { result ≡ (t + byte_sum s.now) % byte_values }
 {
     let mut r = t;
-    let mut i = 0;
-    while i < s.len() {
-        r = add(r, s[i]);
-        i += 1;
+    for b in s {
+        r = add(r, *b);
     }
     r
 }
@@ -129,12 +127,13 @@ fn turns(s: &[u8]) -> Summed
         w: empty(),
     };
     let mut i = 0;
+    // Stays a `while` over places: by `chunks_exact(32)` a sum of 250 bytes takes 135 instructions, not 100.
     while i <= last {
         f = turn(f, &s[i..]);
         i += TURN_BYTES;
     }
     let sum = add(add(folded(f.t), folded(f.u)), add(folded(f.v), folded(f.w)));
-    Summed { sum: sum, at: i }
+    Summed { sum, at: i }
 }
 
 // The bytes of whole rounds, added to t.
@@ -144,6 +143,7 @@ fn rounds(t: u8, s: &[u8]) -> u8
 {
     let mut u = empty();
     let mut i = 0;
+    // Stays, as in `turns`.
     while i < s.len() {
         u = round(u, &s[i..]);
         i += ROUND_BYTES;
@@ -185,5 +185,5 @@ pub fn checksum(s: &[u8]) -> u8
     ensures value { result ≡ checksum s.now }
     ensures byte_values_value { (byte_sum s.now + result) % byte_values ≡ 0 }
 {
-    std::num::wrapping_sub_u8(0, sum(s))
+    0u8.wrapping_sub(sum(s))
 }

@@ -11,7 +11,8 @@ const ROUND_BYTES: usize = 2 * HALF;
 
 const TURN_BYTES: usize = 2 * ROUND_BYTES;
 
-// Bytes that were read and are not written yet.
+// Bytes that were read and are not written yet. Stays written out: by `copy_from_slice` the turn is so short that the compiler copies all of
+// `buffer::Writer::put` into each caller, and the archive's code grows from 42,402 to 48,380 bytes.
 #[derive(Clone, Copy)]
 struct Eight {
     a: u8,
@@ -76,26 +77,25 @@ fn copy_turn(dst: &mut [u8], src: &[u8])
     copy_round(&mut dst[ROUND_BYTES..], &src[ROUND_BYTES..]);
 }
 
-// The first n bytes one by one: for callers who copy in one place, or whose n the compiler knows. It is copied into each of them.
+/// The first `n` bytes one by one: for callers who copy in one place, or whose n the compiler knows. It is copied into each of them.
 pub fn copy_each(dst: &mut [u8], src: &[u8], n: usize)
     requires { (n ≤ length dst.old) × (n ≤ length src.now) }
     ensures { dst.new ≡ take n src.now ++ drop n dst.old }
 {
-    let mut i = 0;
-    while i < n {
+    for i in 0..n {
         dst[i] = src[i];
-        i += 1;
     }
 }
 
-// The same by turns, and the last 0 to 31 one by one. The compiler calls it, since it is too long to be copied in: one loop for all texts that
-// are written, in place of one for each (docs/PERFORMANCE.md, "One loop that copies").
+/// The same by turns, and the last 0 to 31 one by one. The compiler calls it, since it is too long to be copied in: one loop for all texts that
+/// are written, in place of one for each (docs/PERFORMANCE.md, "One loop that copies").
 pub fn copy(dst: &mut [u8], src: &[u8], n: usize)
     requires { (n ≤ length dst.old) × (n ≤ length src.now) }
     ensures { dst.new ≡ take n src.now ++ drop n dst.old }
 {
     let whole = n - n % TURN_BYTES;
     let mut i = 0usize;
+    // Stays: steps of a turn, and what is left after them is copied from where they ended.
     while i < whole {
         copy_turn(&mut dst[i..], &src[i..]);
         i += TURN_BYTES;
@@ -103,14 +103,10 @@ pub fn copy(dst: &mut [u8], src: &[u8], n: usize)
     copy_each(&mut dst[i..], &src[i..], n - i);
 }
 
-// Zeros over the first n bytes.
+/// Zeros over the first `n` bytes.
 pub fn clear(dst: &mut [u8], n: usize)
     requires { n ≤ length dst.old }
     ensures { dst.new ≡ replicate n 0 ++ drop n dst.old }
 {
-    let mut i = 0;
-    while i < n {
-        dst[i] = 0;
-        i += 1;
-    }
+    dst[..n].fill(0);
 }

@@ -1,16 +1,17 @@
-// Dates as six digits, YYMMDD, and times as four, HHMM: read and written.
+//! Dates as six digits, YYMMDD, and times as four, HHMM: read and written.
 #![tactic(auto)]
 
-ghost use Rattle.std.specs.Prelude.{◌≡◌, true, ◌+◌, ◌/◌, ◌%◌, ◌<◌, length};
+ghost use Rattle.std.specs.Prelude.{◌≡◌, true, ◌+◌, ◌/◌, ◌%◌, ◌<◌, length, IfSome};
 ghost use Rattle.grammar.specs.Bytes.{every};
 ghost use Rattle.grammar.specs.Fields.{digit, decimal_base};
 ghost use Rattle.grammar.specs.Ascii.{char};
-ghost use Rattle.dates.specs.Digits.{full_year, pair_at, read_date, read_time, date_text, time_text, pair_values};
+ghost use Rattle.dates.specs.Dates.{is_date, is_time};
+ghost use Rattle.dates.specs.Digits.{digits, full_year, pair_at, read_date, read_time, date_text, time_text, pair_values};
 ghost use Rattle.calendar.specs.Meaning.{date_is, time_is};
 ghost use Rattle.date_digits.specs.Meaning.{read_date_is, read_time_is};
 
 use byte::{Class, DECIMAL_BASE, all_of};
-use calendar::{Date, Time, is_date, is_time};
+use calendar::{Date, Time};
 
 // "YYMMDD", "HHMM": how long each is, and where its parts stand.
 pub const DATE_LENGTH: usize = 6;
@@ -33,24 +34,22 @@ const THIS_CENTURY: u16 = 2000;
 // Two digits are a number below this.
 const PAIR_VALUES: u16 = DECIMAL_BASE as u16 * DECIMAL_BASE as u16;
 
-// The date that bytes say, or that they say none.
-#[derive(Drop)]
-pub enum ReadDate {
-    Says(Date),
-    BadDate,
-}
-
-// The time that bytes say, or that they say none.
-#[derive(Drop)]
-pub enum ReadTime {
-    Says(Time),
-    BadTime,
+// Exactly n bytes, each a digit.
+#[tactic(auto, unfolding(byte::specs::Classes::class_of))]
+fn are_digits(text: &[u8], n: usize) -> bool
+    ensures value { result ≡ digits n text.now }
+    ensures each { result ≡ true → every digit text.now ≡ true }
+    ensures length { result ≡ true → length text.now ≡ n }
+{
+    text.len() == n && all_of(text, Class::Digit)
 }
 
 // The number of the two digits at a place.
 fn pair(text: &[u8], i: usize) -> u8
-    requires { (every digit text.now ≡ true) × (i + 1 < length text.now) }
-    ensures { (result ≡ pair_at text.now i) × (result < pair_values) }
+    requires digits { every digit text.now ≡ true }
+    requires inside { i + 1 < length text.now }
+    ensures value { result ≡ pair_at text.now i }
+    ensures below { result < pair_values }
 {
     (text[i] - b'0') * DECIMAL_BASE + (text[i + 1] - b'0')
 }
@@ -59,51 +58,46 @@ fn pair(text: &[u8], i: usize) -> u8
 fn full_year(two: u8) -> u16
     ensures { result ≡ full_year two }
 {
-    if two < TURN_YEAR {
-        return THIS_CENTURY + (two as u16);
-    }
-    LAST_CENTURY + (two as u16)
+    let century = if two < TURN_YEAR {
+        THIS_CENTURY
+    } else {
+        LAST_CENTURY
+    };
+    century + u16::from(two)
 }
 
-// The date of six digits.
-pub fn read_date(text: &[u8]) -> ReadDate
-    ensures { read_date_is result ≡ read_date text.now }
+/// The date that six digits say; `None` where they are no six digits, or say no date.
+#[tactic(auto, unfolding(dates::specs::Digits::read_date))]
+pub fn read_date(text: &[u8]) -> Option<Date>
+    ensures value { read_date_is result ≡ read_date text.now }
+    ensures valid { IfSome result (λ d. is_date (date_is d) ≡ true) }
 {
-    if text.len() != DATE_LENGTH {
-        return ReadDate::BadDate;
-    }
-    if !all_of(text, Class::Digit) {
-        return ReadDate::BadDate;
+    if !are_digits(text, DATE_LENGTH) {
+        return None;
     }
     let date = Date {
         year: full_year(pair(text, 0)),
         month: pair(text, MONTH),
         day: pair(text, DAY),
     };
-    if !is_date(date) {
-        return ReadDate::BadDate;
-    }
-    ReadDate::Says(date)
+    date.is_valid().then_some(date)
 }
 
-// The time of four digits.
-pub fn read_time(text: &[u8]) -> ReadTime
-    ensures { read_time_is result ≡ read_time text.now }
+// Stays, beside `read_date`: three pairs and a century make a date, two pairs a time; one function for both would be longer than the two.
+/// The time that four digits say; `None` where they are no four digits, or say no time.
+#[tactic(auto, unfolding(dates::specs::Digits::read_time))]
+pub fn read_time(text: &[u8]) -> Option<Time>
+    ensures value { read_time_is result ≡ read_time text.now }
+    ensures valid { IfSome result (λ t. is_time (time_is t) ≡ true) }
 {
-    if text.len() != TIME_LENGTH {
-        return ReadTime::BadTime;
-    }
-    if !all_of(text, Class::Digit) {
-        return ReadTime::BadTime;
+    if !are_digits(text, TIME_LENGTH) {
+        return None;
     }
     let time = Time {
         hour: pair(text, 0),
         minute: pair(text, MINUTE),
     };
-    if !is_time(time) {
-        return ReadTime::BadTime;
-    }
-    ReadTime::Says(time)
+    time.is_valid().then_some(time)
 }
 
 // The first of a number's two digits.
@@ -127,7 +121,8 @@ fn two_of(year: u16) -> u8
     (year % PAIR_VALUES) as u8
 }
 
-// A date's six digits.
+/// A date's six digits.
+#[tactic(auto, unfolding(dates::specs::Digits::date_text))]
 pub fn date_text(d: Date) -> [u8; DATE_LENGTH]
     ensures { result ≡ date_text (date_is d) }
 {
@@ -142,7 +137,8 @@ pub fn date_text(d: Date) -> [u8; DATE_LENGTH]
     ]
 }
 
-// A time's four digits.
+/// A time's four digits.
+#[tactic(auto, unfolding(dates::specs::Digits::time_text))]
 pub fn time_text(t: Time) -> [u8; TIME_LENGTH]
     ensures { result ≡ time_text (time_is t) }
 {

@@ -1,2 +1,2 @@
--- What a month is said to be.
+-- What a year is said to have.
 pub mod Meaning

@@ -1,10 +1,10 @@
-// Days from 1970-01-01: the number of a date, and the date of a number.
+//! Days from 1970-01-01: the number of a date, and the date of a number.
 #![tactic(auto)]
 
 ghost use Rattle.std.specs.Prelude.{◌≡◌, true, false, ◌≤◌, ◌<◌};
-ghost use Rattle.dates.specs.Dates.{is_date, month_start, day_number, year_in, year_start, date_of, last_month, cycle_years, all_days};
+ghost use Rattle.dates.specs.Dates.{is_date, month_start, month_of, day_number, year_in, year_start, date_of, last_month, cycle_years, all_days};
 ghost use Rattle.calendar.specs.Meaning.{date_is};
-ghost use Rattle.day_number.specs.Meaning.{year_length, MonthIs};
+ghost use Rattle.day_number.specs.Meaning.{year_length};
 
 use calendar::Date;
 
@@ -29,50 +29,29 @@ const THIRD_YEAR: u32 = LONG_YEAR * YEAR_DAYS;
 
 const FOURTH_YEAR: u32 = THIRD_YEAR + LONG_YEAR_DAYS;
 
-// How many days of a long year come before a month.
-fn long_start(month: u8) -> u16
-    requires { (1 ≤ month) × (month ≤ last_month) }
-    ensures { result ≡ month_start true month }
-{
-    let starts = [
-        0u16, 31, 60, 91, 121, 152, 182, 213, 244, 274, 305, 335, 366,
-    ];
-    let i = (month - 1) as usize;
-    starts[i]
-}
-
-// How many days of a short year come before a month.
-fn short_start(month: u8) -> u16
-    requires { (1 ≤ month) × (month ≤ last_month) }
-    ensures { result ≡ month_start false month }
-{
-    let starts = [
-        0u16, 31, 59, 90, 120, 151, 181, 212, 243, 273, 304, 334, 365,
-    ];
-    let i = (month - 1) as usize;
-    starts[i]
-}
-
 // How many days of the year come before a month.
 fn start_of(leap: bool, month: u8) -> u16
     requires { (1 ≤ month) × (month ≤ last_month) }
     ensures { result ≡ month_start leap month }
 {
-    if leap {
-        return long_start(month);
-    }
-    short_start(month)
+    let starts: [u16; 13] = if leap {
+        [0, 31, 60, 91, 121, 152, 182, 213, 244, 274, 305, 335, 366]
+    } else {
+        [0, 31, 59, 90, 120, 151, 181, 212, 243, 273, 304, 334, 365]
+    };
+    starts[usize::from(month - 1)]
 }
 
-// The number of a date.
+/// The number of a date: its days from 1970-01-01.
 pub fn number_of(d: Date) -> u32
     requires { is_date (date_is d) ≡ true }
-    ensures { result ≡ day_number (date_is d) }
+    ensures value { result ≡ day_number (date_is d) }
+    ensures below { result < all_days }
 {
-    let years = (d.year - FIRST_YEAR) as u32;
-    let long_years = ((d.year - (FIRST_YEAR - 1)) / calendar::CYCLE_YEARS) as u32;
-    let start = start_of(d.year % calendar::CYCLE_YEARS == 0, d.month) as u32;
-    let day = (d.day - 1) as u32;
+    let years = u32::from(d.year - FIRST_YEAR);
+    let long_years = u32::from((d.year - (FIRST_YEAR - 1)) / calendar::CYCLE_YEARS);
+    let start = u32::from(start_of(d.year % calendar::CYCLE_YEARS == 0, d.month));
+    let day = u32::from(d.day - 1);
     YEAR_DAYS * years + long_years + (start + day)
 }
 
@@ -80,16 +59,12 @@ pub fn number_of(d: Date) -> u32
 fn year_in(day: u32) -> u32
     ensures { result ≡ year_in day }
 {
-    if day < YEAR_DAYS {
-        return 0;
+    match day {
+        ..YEAR_DAYS => 0,
+        ..THIRD_YEAR => 1,
+        ..FOURTH_YEAR => LONG_YEAR,
+        _ => LAST_OF_CYCLE,
     }
-    if day < THIRD_YEAR {
-        return 1;
-    }
-    if day < FOURTH_YEAR {
-        return LONG_YEAR;
-    }
-    LAST_OF_CYCLE
 }
 
 // How many days of a cycle come before a year of it.
@@ -102,22 +77,23 @@ fn year_start(year: u32) -> u32
     starts[i]
 }
 
-// The month of a day of the year, from 0.
+// The month of a day of the year, from 0: the last that starts by it.
 fn month_of(leap: bool, day: u32) -> u8
     requires { day < year_length leap }
-    ensures { MonthIs leap day result }
+    ensures value { result ≡ month_of leap day }
+    ensures least { 1 ≤ result }
+    ensures most { result ≤ last_month }
+    ensures starts { month_start leap result ≤ day }
 {
-    let mut month = 1;
-    while month < MONTHS {
-        if day < (start_of(leap, month + 1) as u32) {
+    for month in 1..MONTHS {
+        if day < u32::from(start_of(leap, month + 1)) {
             return month;
         }
-        month += 1;
     }
-    month
+    MONTHS
 }
 
-// The date of a number.
+/// The date of a number of days from 1970-01-01.
 pub fn date_of(n: u32) -> Date
     requires { n < all_days }
     ensures { date_is result ≡ date_of n }
@@ -127,10 +103,10 @@ pub fn date_of(n: u32) -> Date
     let day = in_cycle - year_start(year);
     let leap = year == LONG_YEAR;
     let month = month_of(leap, day);
-    let start = start_of(leap, month) as u32;
+    let start = u32::from(start_of(leap, month));
     Date {
-        year: ((FIRST_YEAR as u32) + CYCLE_YEARS * (n / CYCLE_DAYS) + year) as u16,
-        month: month,
+        year: (u32::from(FIRST_YEAR) + CYCLE_YEARS * (n / CYCLE_DAYS) + year) as u16,
+        month,
         day: (day - start + 1) as u8,
     }
 }

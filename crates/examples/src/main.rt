@@ -1,5 +1,5 @@
-// 01's unmarked examples, played through the three calls: how long a line may be, and a whole session of a called station with an empty
-// table. No buffer but session memory has a byte.
+//! 01's unmarked examples, played through the three calls: how long a line may be, and a whole session of a called station with an empty
+//! table. No buffer but session memory has a byte.
 #![tactic(auto)]
 
 ghost use Rattle.std.specs.Prelude.{◌≡◌, ◌≤◌, length};
@@ -43,17 +43,14 @@ fn show_byte<W: Write>(out: &mut W, b: u8) -> io::Result<()> {
     if b == CR {
         return say(out, b"<CR>");
     }
-    let one = [b];
-    say(out, &one)
+    say(out, &[b])
 }
 
 // Bytes of the link on a line of their own.
 fn show<W: Write>(out: &mut W, who: &[u8], bytes: &[u8]) -> io::Result<()> {
     say(out, who)?;
-    let mut i = 0;
-    while i < bytes.len() {
-        show_byte(out, bytes[i])?;
-        i += 1;
+    for b in bytes {
+        show_byte(out, *b)?;
     }
     say(out, b"\n")
 }
@@ -96,11 +93,10 @@ fn opened<W: Write>(out: &mut W, session: &mut [u8]) -> io::Result<()> {
 fn given<W: Write>(out: &mut W, session: &mut [u8]) -> io::Result<()> {
     let mut buf = [0u8; ROOM];
     let reply = give::give(session, b"", b"", b"", b"", b"", b"", b"", &mut buf, 0);
-    let n = reply.count;
-    if n <= ROOM {
-        show(out, b"out: ", &buf[0..n])?;
+    match buf.get(..reply.count) {
+        Some(bytes) => show(out, b"out: ", bytes),
+        None => Ok(()),
     }
-    Ok(())
 }
 
 // Receives bytes of the partner's.
@@ -148,8 +144,7 @@ fn long_line<W: Write>(out: &mut W, n: usize) -> io::Result<()>
         &mut session,
         b"FB P F6FBB FC1GHV FC1MVP 24657_F6FBB 1345",
     )?;
-    let space = spaces();
-    received(out, &mut session, &space[0..n])?;
+    received(out, &mut session, &spaces()[..n])?;
     received(out, &mut session, b"\r")
 }
 

@@ -1,4 +1,4 @@
-// Fields: 1 to n bytes of a class, the rules for from, to, at, BID, heading and body.
+//! Fields: 1 to n bytes of a class, the rules for from, to, at, BID, heading and body.
 #![tactic(auto)]
 
 ghost use Rattle.std.specs.Prelude.{◌≡◌};
@@ -6,7 +6,7 @@ ghost use Rattle.grammar.specs.Fields.{field, is_call, is_bid, is_heading, is_at
 ghost use Rattle.byte.specs.Classes.{class_of};
 
 use byte::{Class, all_of};
-use span::{find, find_from};
+use span::find;
 
 const CALL_MAX: usize = places::CALL_MAX as usize;
 
@@ -27,83 +27,67 @@ const FORM_MESSAGE: u8 = phase::FORM_MESSAGE;
 
 const FORM_FILE: u8 = phase::FORM_FILE;
 
-// 1 to n bytes of the class.
+/// 1 to n bytes of the class.
 pub fn is_field(s: &[u8], class: Class, n: usize) -> bool
     ensures { result ≡ field (class_of class) n s.now }
 {
-    if !all_of(s, class) {
-        return false;
-    }
-    if s.len() < 1 {
-        return false;
-    }
-    s.len() <= n
+    all_of(s, class) && !s.is_empty() && s.len() <= n
 }
 
-// From or to.
+/// From or to.
+#[tactic(auto, unfolding(grammar::specs::Fields::is_call, byte::specs::Classes::class_of))]
 pub fn is_call(s: &[u8]) -> bool
     ensures { result ≡ is_call s.now }
 {
     is_field(s, Class::Call, CALL_MAX)
 }
 
-// A BID.
+/// A BID.
+#[tactic(auto, unfolding(grammar::specs::Fields::is_bid, byte::specs::Classes::class_of))]
 pub fn is_bid(s: &[u8]) -> bool
     ensures { result ≡ is_bid s.now }
 {
     is_field(s, Class::Bid, BID_MAX)
 }
 
-// A title or a file name.
+/// A title or a file name.
+#[tactic(auto, unfolding(byte::specs::Classes::class_of))]
 pub fn is_heading(s: &[u8]) -> bool
     ensures { result ≡ is_heading s.now }
 {
     is_field(s, Class::Heading, HEADING_MAX)
 }
 
-// A body of the form with this number.
+/// A body of the form with this number, as a record holds it.
+#[tactic(auto, unfolding(byte::specs::Classes::class_of))]
 pub fn is_body(form: u8, s: &[u8]) -> bool
     ensures { result ≡ is_body (form_is form) s.now }
 {
-    if BODY_MAX < s.len() {
-        return false;
-    }
-    if form == FORM_MESSAGE {
-        return true;
-    }
-    if form == FORM_FILE {
-        return true;
-    }
-    all_of(s, Class::PlainBody)
+    // The form stays a number: a byte of the lent table, of which form_is says what every value stands for.
+    s.len() <= BODY_MAX && (matches!(form, FORM_MESSAGE | FORM_FILE) || all_of(s, Class::PlainBody))
 }
 
-// Calls joined by points.
+// Calls joined by points. Stays a loop: of `split`'s parts the library promises only how long they are, so `all` over them proves nothing.
 fn are_calls(s: &[u8]) -> bool
     ensures { result ≡ all_calls (parts s.now) }
 {
-    let mut a = 0;
+    let mut rest = s;
     loop {
-        let e = find_from(s, a, b'.');
-        if !is_call(&s[a..e]) {
+        let end = find(rest, b'.');
+        if !is_call(&rest[..end]) {
             return false;
         }
-        if s.len() <= e {
+        if rest.len() <= end {
             return true;
         }
-        a = e + 1;
+        rest = &rest[end + 1..];
     }
 }
 
-// At: a mailbox, perhaps with its place in the hierarchy.
+/// At: a mailbox, perhaps with its place in the hierarchy.
+#[tactic(auto, using(crate::proofs::Laws::at_dot), unfolding(grammar::specs::Fields::is_at))]
 pub fn is_at(s: &[u8]) -> bool
     ensures { result ≡ is_at s.now }
 {
-    if !are_calls(s) {
-        return false;
-    }
-    if AT_MAX < s.len() {
-        return false;
-    }
-    let d = find(s, b'.');
-    s.len() <= d + FROM_POINT_MAX
+    are_calls(s) && s.len() <= AT_MAX && s.len() <= find(s, b'.') + FROM_POINT_MAX
 }

@@ -11,7 +11,7 @@ use session_memory::Five;
 // The most numbers of a block, as a length.
 const BLOCK_LIMIT: usize = phase::BLOCK_LIMIT as usize;
 
-// No numbers.
+/// No numbers.
 pub fn none() -> Five
     ensures { result ≡ no_five }
 {
@@ -21,24 +21,27 @@ pub fn none() -> Five
     }
 }
 
-// How many numbers are held.
+/// How many numbers are held.
 pub fn count_of(f: Five) -> usize
     ensures { (result ≡ length (held f)) × (result ≤ block_limit) }
 {
-    if phase::BLOCK_LIMIT < f.count {
-        return phase::BLOCK_LIMIT as usize;
-    }
-    f.count as usize
+    f.count.min(phase::BLOCK_LIMIT) as usize
 }
 
-// These numbers and one more.
+/// The numbers held.
+pub fn in_use(f: &Five) -> &[u8]
+    ensures { result.now ≡ held f.now }
+{
+    &f.items[..count_of(*f)]
+}
+
+/// These numbers and one more.
 pub fn add(f: Five, x: u8) -> Five
     requires { Filled f × (f.count < block_limit) }
     ensures { result ≡ five_of (held f ++ (x ∷ [])) }
 {
     let mut g = f;
-    let n = f.count as usize;
-    g.items[n] = x;
-    g.count = f.count + 1;
+    g.items[f.count as usize] = x;
+    g.count += 1;
     g
 }

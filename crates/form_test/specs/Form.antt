@@ -1,6 +1,6 @@
 -- 01, "Receive and give answer 1 .. exactly if a lent size isn't the one open kept in session memory or the lent memory fails a form test.
 -- The test is listed in docs/": here it is, in the order of docs/MEMORY.md.
-use Rattle.std.specs.Prelude.{◌≡◌, Bool, true, cond, not, ◌&&◌, ◌||◌, List, [], ◌∷◌, ℕ, zero, suc, ◌+◌, eqb, ltb, leb, length, get_or, drop}
+use Rattle.std.specs.Prelude.{◌≡◌, Bool, true, false, Option, Some, None, cond, not, ◌&&◌, ◌||◌, List, [], ◌∷◌, ℕ, zero, suc, ◌+◌, eqb, ltb, leb, length, get_or, drop}
 use Rattle.grammar.specs.Bytes.{Bytes}
 use Rattle.layout.specs.Layout.{byte_at, entry_at, body_length, le4_at}
 use Rattle.session_memory.specs.State.{held, load_of, load_sizes}
@@ -40,10 +40,6 @@ unfoldable pub counts_ok : Session → Bool
 counts_ok s =
     leb s.line.len line_len && (leb s.now.ours.count block_limit && (leb s.say.signs.count block_limit && (leb s.keep.sending.count block_limit
     && (leb s.now.proposals block_limit && (leb s.reading.reader.head heading_len && ltb s.keep.terms.partner partners)))))
-
--- So many messages' lengths are added a turn of the code's loop.
-abbrev pub round_length : ℕ
-round_length = 8
 
 -- How many store bytes the first n messages of the inbox use, from message i on.
 abbrev pub used_from : Bytes → ℕ → ℕ → ℕ
@@ -106,6 +102,7 @@ form_of sm table titles names bodies known inbox store =
     eqb (length sm) session_len && (mark_ok sm && (same_sizes (load_sizes sm) (lent_sizes table titles names bodies known inbox store)
     && state_ok (load_of sm) table titles names bodies inbox store))
 
--- What give needs of a memory that passes: whether something waits, and where the next byte to give is.
-abbrev pub NextToGive : Session → Bytes → Bytes → Bytes → Bytes → Place → Type 0
-NextToGive s table titles names bodies p = (p.left ≡ waits s.say) × (p.left ≡ true → PlaceOfByte (pieces_of s table titles names bodies) s.say.pos p)
+-- What give needs of a memory that passes: where the next byte to give is; none where nothing waits.
+abbrev pub NextToGive : Session → Bytes → Bytes → Bytes → Bytes → Option Place → Type 0
+NextToGive s table titles names bodies None = waits s.say ≡ false
+NextToGive s table titles names bodies (Some p) = (waits s.say ≡ true) × PlaceOfByte (pieces_of s table titles names bodies) s.say.pos p

@@ -1,5 +1,5 @@
 -- The numbers of the C interface, as a survey, lines, seconds and dates.
-use Rattle.std.specs.Prelude.{◌≡◌, Bool, true, false, cond, not, List, [], ◌∷◌, ℕ, ◌<◌, ◌≤◌, eqb, length, drop, ℤ, pos}
+use Rattle.std.specs.Prelude.{◌≡◌, Bool, true, false, cond, not, List, [], ◌∷◌, ℕ, ◌<◌, ◌≤◌, eqb, length, drop, ℤ, pos, Result, Ok, Err}
 use Rattle.std.proofs.Math.Option.{Option, none, some}
 use Rattle.grammar.specs.Bytes.{Bytes}
 use Rattle.span.specs.Places.{bytes_between}
@@ -8,6 +8,8 @@ use Rattle.dates.specs.Digits.{date_text}
 use Rattle.pages.specs.Pages as pages
 use Rattle.pages.specs.Pages.{pages_of, handed, data_after_flag}
 use Rattle.pages.specs.Stamps.{bad_date, out_of_range}
+use Rattle.page_cut.specs.Why.{why_of}
+use Rattle.page_cut.specs.declared.Dropped.{Dropped}
 use Rattle.page_member.specs.Meaning.{member_in, FieldsLie}
 use Rattle.page_member.specs.declared.Member.{Member}
 use Rattle.page_line.specs.declared.Page.{Page}
@@ -98,11 +100,11 @@ member_page line m =
       why = 0;
     }
 
-abbrev pub told_by : PageLine → Page → MailPage
-told_by line (Page.Version n) = bare_of line.next line.start line.end version_kind n 0
-told_by line (Page.Member m) = member_page line m
-told_by line Page.Skipped = bare_of line.next line.start line.end skipped_kind 0 0
-told_by line (Page.Dropped n) = bare_of line.next line.start line.end dropped_kind 0 n
+abbrev pub told_by : PageLine → Result Page Dropped → MailPage
+told_by line (Ok (Page.Version n)) = bare_of line.next line.start line.end version_kind n 0
+told_by line (Ok (Page.Member m)) = member_page line m
+told_by line (Ok Page.Skipped) = bare_of line.next line.start line.end skipped_kind 0 0
+told_by line (Err why) = bare_of line.next line.start line.end dropped_kind 0 (why_of why)
 
 abbrev pub told_line : PageLine → MailPage
 told_line line = told_by line line.page

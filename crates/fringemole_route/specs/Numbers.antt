@@ -3,7 +3,7 @@ use Rattle.std.specs.Prelude.{◌≡◌, Bool, true, false, cond, List, [], ◌�
 use Rattle.std.proofs.Math.Option.{Option, none, some}
 use Rattle.grammar.specs.Bytes.{Bytes}
 use Rattle.span.specs.Places.{bytes_between}
-use Rattle.route.specs.Routes.{Header, route_of, origin_of}
+use Rattle.route.specs.Routes.{Header, route_of}
 use Rattle.route.specs.Written as written
 use Rattle.routes.specs.declared.Hop.{Hop}
 use Rattle.fringemole_route.specs.declared.RouteHop.{RouteHop}
@@ -50,9 +50,6 @@ abbrev pub HopLies : Bool → Bytes → ℕ → RouteHop → Type 0
 HopLies true body at r = (r.start ≤ r.end) × (r.end ≤ length body) × (at < r.next) × (r.next ≤ length body)
 HopLies false body at r = r ≡ no_hop
 
-abbrev pub HopIs : Bytes → ℕ → RouteHop → Type 0
-HopIs body at r = (headers_said body r ≡ route_of (drop at body)) × HopLies (eqb r.found 1) body at r
-
 -- ---------------------------------------------------------------- the origin
 
 abbrev pub origin_said : Bytes → RouteOrigin → Option Bytes
@@ -61,9 +58,6 @@ origin_said body r = cond (eqb r.found 1) (some (bytes_between body r.start r.en
 abbrev pub OriginLies : Bool → Bytes → RouteOrigin → Type 0
 OriginLies true body r = (r.start ≤ r.end) × (r.end ≤ length body)
 OriginLies false body r = r ≡ record { start = 0; end = 0; found = 0 }
-
-abbrev pub OriginIs : Bytes → RouteOrigin → Type 0
-OriginIs body r = (origin_said body r ≡ origin_of (route_of body)) × OriginLies (eqb r.found 1) body r
 
 -- ---------------------------------------------------------------- the writer
 

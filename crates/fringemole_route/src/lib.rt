@@ -1,16 +1,21 @@
-// Routing headers for a C host (include/fringemole_route.h): read by places in a lent body, and ours written into a second buffer.
+//! Routing headers for a C host (include/fringemole_route.h): read by places in a lent body, and ours written into a second buffer.
 #![tactic(auto)]
 
-ghost use Rattle.std.specs.Prelude.{◌≡◌, cond};
+ghost use Rattle.std.specs.Prelude.{◌≡◌, eqb, drop};
+ghost use Rattle.route.specs.Routes.{route_of, origin_of};
 ghost use Rattle.route.specs.Written.{add_route};
 ghost use Rattle.route_write.specs.Meaning.{added_number, added_count};
-ghost use Rattle.fringemole_route.specs.Numbers.{told_hop, HopIs, OriginIs, our_header_of, added_said};
+ghost use Rattle.fringemole_route.specs.Numbers.{told_hop, headers_said, HopLies, origin_said, OriginLies, our_header_of, added_said};
 
 use calendar::{Date, Time};
-use route_write::Added;
-use routes::{Hop, NextHeader, Origin};
+use route_read::Header;
+use route_write::{OurHeader, Refused};
+use routes::Hop;
+use span::Span;
 
-// A header, if one was found: 1, else 0 and all numbers 0. The mailbox lies in the body from start up to, not including, end; gmt is 1 where the zone is known.
+// Stays, here and in the two structs below: found, gmt and answer are numbers, places are two numbers; the C interface (include/fringemole_route.h).
+
+/// A header, if one was found: 1, else 0 and all numbers 0. The mailbox lies in the body from start up to, not including, end; gmt is 1 where the zone is known.
 #[repr(C)]
 #[derive(Drop)]
 pub struct RouteHop {
@@ -27,7 +32,7 @@ pub struct RouteHop {
     pub found: u8,
 }
 
-// The origin's mailbox, if there is one: 1, else 0 and both places 0.
+/// The origin's mailbox, if there is one: 1, else 0 and both places 0.
 #[repr(C)]
 #[derive(Drop)]
 pub struct RouteOrigin {
@@ -36,7 +41,7 @@ pub struct RouteOrigin {
     pub found: u8,
 }
 
-// The writer's answer, and how many bytes it has written.
+/// The writer's answer, and how many bytes it has written.
 #[repr(C)]
 #[derive(Drop)]
 pub struct RouteAdded {
@@ -44,46 +49,42 @@ pub struct RouteAdded {
     pub answer: u8,
 }
 
-// A flag as a number.
-fn flag(b: bool) -> u8
-    ensures { result ≡ cond b 1 0 }
-{
-    if b {
-        return 1;
-    }
-    0
-}
+impl From<Hop> for RouteHop {
+    ghost from_gives = { λ h r. r ≡ told_hop h };
 
-// A header's numbers.
-fn told_hop(h: Hop) -> RouteHop
-    ensures { result ≡ told_hop h }
-{
-    let header = h.header;
-    let date = header.date;
-    let time = header.time;
-    let mailbox = header.mailbox;
-    RouteHop {
-        next: h.next,
-        start: mailbox.start,
-        end: mailbox.end,
-        number: header.number,
-        year: date.year,
-        month: date.month,
-        day: date.day,
-        hour: time.hour,
-        minute: time.minute,
-        gmt: flag(header.gmt),
-        found: 1,
+    fn from(hop: Hop) -> RouteHop {
+        let Header {
+            date,
+            time,
+            gmt,
+            number,
+            mailbox: Span { start, end },
+        } = hop.header;
+        RouteHop {
+            next: hop.next,
+            start,
+            end,
+            number,
+            year: date.year,
+            month: date.month,
+            day: date.day,
+            hour: time.hour,
+            minute: time.minute,
+            gmt: u8::from(gmt),
+            found: 1,
+        }
     }
 }
 
-// The header at a place of a body: 0, or next of the header before.
+/// The header at a place of a body: 0, or next of the header before.
+#[tactic(auto, using(crate::proofs::Laws::hop_told))]
 #[unsafe(no_mangle)]
 pub extern "C" fn fringemole_route_next(body: &[u8], at: usize) -> RouteHop
-    ensures { HopIs body.now at result }
+    ensures value { headers_said body.now result ≡ route_of (drop at body.now) }
+    ensures within { HopLies (eqb result.found 1) body.now at result }
 {
     match routes::next_header(body, at) {
-        NextHeader::End => RouteHop {
+        None => RouteHop {
             next: 0,
             start: 0,
             end: 0,
@@ -96,22 +97,23 @@ pub extern "C" fn fringemole_route_next(body: &[u8], at: usize) -> RouteHop
             gmt: 0,
             found: 0,
         },
-        NextHeader::Is(hop) => told_hop(hop),
+        Some(hop) => RouteHop::from(hop),
     }
 }
 
-// The mailbox where the message began.
+/// The mailbox where the message began.
 #[unsafe(no_mangle)]
 pub extern "C" fn fringemole_route_origin(body: &[u8]) -> RouteOrigin
-    ensures { OriginIs body.now result }
+    ensures value { origin_said body.now result ≡ origin_of (route_of body.now) }
+    ensures within { OriginLies (eqb result.found 1) body.now result }
 {
     match routes::find_origin(body) {
-        Origin::Nowhere => RouteOrigin {
+        None => RouteOrigin {
             start: 0,
             end: 0,
             found: 0,
         },
-        Origin::At(mailbox) => RouteOrigin {
+        Some(mailbox) => RouteOrigin {
             start: mailbox.start,
             end: mailbox.end,
             found: 1,
@@ -126,27 +128,29 @@ const BAD_FIELD: u8 = 1;
 
 const NO_ROOM: u8 = 2;
 
-// The writer's numbers.
-fn told_added(added: Added) -> RouteAdded
-    ensures { (result.answer ≡ added_number added) × (result.count ≡ added_count added) }
-{
-    match added {
-        Added::Written(n) => RouteAdded {
-            count: n,
-            answer: WRITTEN,
-        },
-        Added::BadField => RouteAdded {
-            count: 0,
-            answer: BAD_FIELD,
-        },
-        Added::NoRoom => RouteAdded {
-            count: 0,
-            answer: NO_ROOM,
-        },
+impl From<Result<usize, Refused>> for RouteAdded {
+    ghost from_gives = { λ a r. (r.answer ≡ added_number a) × (r.count ≡ added_count a) };
+
+    fn from(added: Result<usize, Refused>) -> RouteAdded {
+        match added {
+            Ok(count) => RouteAdded {
+                count,
+                answer: WRITTEN,
+            },
+            Err(Refused::BadField) => RouteAdded {
+                count: 0,
+                answer: BAD_FIELD,
+            },
+            Err(Refused::NoRoom) => RouteAdded {
+                count: 0,
+                answer: NO_ROOM,
+            },
+        }
     }
 }
 
-// Our header in front of a body, at the start of out.
+/// Our header in front of a body, at the start of out.
+// Stays: nine parameters and no `OurHeader`; the C interface.
 #[unsafe(no_mangle)]
 pub extern "C" fn fringemole_route_add(
     out: &mut [u8],
@@ -161,15 +165,11 @@ pub extern "C" fn fringemole_route_add(
 ) -> RouteAdded
     ensures { added_said result out.new ≡ add_route out.old (our_header_of year month day hour minute number mailbox.now) body.now }
 {
-    let date = Date {
-        year: year,
-        month: month,
-        day: day,
+    let header = OurHeader {
+        date: Date { year, month, day },
+        time: Time { hour, minute },
+        number,
+        mailbox,
     };
-    let time = Time {
-        hour: hour,
-        minute: minute,
-    };
-    let added = route_write::add_route(out, date, time, number, mailbox, body);
-    told_added(added)
+    RouteAdded::from(route_write::add_route(out, &header, body))
 }

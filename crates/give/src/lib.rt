@@ -1,19 +1,21 @@
 // The call give.
 #![tactic(auto)]
 
-ghost use Rattle.std.specs.Prelude.{◌≡◌, length};
+ghost use Rattle.std.specs.Prelude.{◌≡◌, length, drop};
 ghost use Rattle.grammar.specs.Refusals.{bad_memory, no_place};
 ghost use Rattle.places.specs.Places.{session_len};
 ghost use Rattle.session_memory.specs.State.{load_of, save_of};
 ghost use Rattle.waiting.specs.Waiting.{waiting_of};
-ghost use Rattle.waiting.specs.Pieces.{pieces_of};
+ghost use Rattle.waiting.specs.Pieces.{pieces_joined, pieces_of};
+ghost use Rattle.buffer.specs.Put.{Puts, cursor};
 ghost use Rattle.give_place.specs.Located.{PlaceOfByte};
 ghost use Rattle.give.specs.Giving.{reply, Hands, left_of, give_of};
 
-use buffer::Cursor;
+use buffer::{Cursor, Writer};
 use give_place::Place;
 use number_at::eight;
 use numbers_in_place::put_pieces;
+use refusal::Refusal;
 
 // What a call answers: 01's number, the place of a bad record (255: none; 0 but for number 1), the bytes dealt with.
 #[repr(C)]
@@ -51,10 +53,29 @@ fn bad() -> Reply
     ensures { result ≡ reply bad_memory no_place 0 }
 {
     Reply {
-        answer: refusal::BAD_MEMORY,
+        answer: Refusal::BadMemory as u8,
         place: NO_PLACE,
         count: 0,
     }
+}
+
+// The pieces from p's on, without those of its bytes that are given, into buf from a place on.
+fn write<'a>(
+    buf: &mut [u8],
+    place: usize,
+    p: &Place,
+    sm: &[u8],
+    table: &[u8],
+    titles: &'a [u8],
+    names: &'a [u8],
+    bodies: &[u8],
+) -> Cursor
+    requires { length sm.now ≡ session_len }
+    ensures { Puts buf.old (cursor place p.now.offset) (pieces_joined (drop p.now.piece (pieces_of (load_of sm.now) table.now titles.now names.now bodies.now))) result buf.new }
+{
+    let mut w = Writer::new(buf, place, p.offset);
+    waiting_write::write_from(&mut w, p.piece, sm, table, titles, names, bodies);
+    w.cursor
 }
 
 // Writes what waits from a place in it on into buf, as far as it fits.
@@ -71,11 +92,7 @@ fn hand<'a>(
     requires { (length sm.now ≡ session_len) × PlaceOfByte (pieces_of (load_of sm.now) table.now titles.now names.now bodies.now) (load_of sm.now).say.pos p }
     ensures { Hands (load_of sm.now) (waiting_of (load_of sm.now) table.now titles.now names.now bodies.now) buf.old place result buf.new }
 {
-    let c = Cursor {
-        at: place,
-        skip: p.offset,
-    };
-    let d = waiting_write::write_from(buf, c, p.piece, sm, table, titles, names, bodies);
+    let d = write(buf, place, &p, sm, table, titles, names, bodies);
     let at = d.at;
     let count = at - place;
     let pos = eight(sm, places::POS) + count;
@@ -130,14 +147,12 @@ pub fn give<'a>(
 ) -> Reply
     ensures { record { reply = result; sm = sm.new; buf = buf.new } ≡ give_of sm.old table.now titles.now names.now bodies.now known.now inbox.now store.now buf.old place }
 {
-    let t = form_test::test(sm, table, titles, names, bodies, known, inbox, store);
-    if !t.ok {
+    let Ok(next) = form_test::test(sm, table, titles, names, bodies, known, inbox, store) else {
         return bad();
-    }
-    let p = t.place;
-    if !p.left {
+    };
+    let Some(p) = next else {
         return given(0);
-    }
+    };
     if buf.len() <= place {
         return given(0);
     }

@@ -1,5 +1,5 @@
 -- Byte pos of what waits, in the pieces that wait.
-use Rattle.std.specs.Prelude.{◌≡◌, true, List, ℕ, ◌<◌, ◌≤◌, ltb, length, drop}
+use Rattle.std.specs.Prelude.{◌≡◌, false, List, ℕ, ◌<◌, ◌≤◌, ltb, length, drop, Option, Some, None}
 use Rattle.grammar.specs.Bytes.{Bytes}
 use Rattle.waiting.specs.Pieces.{pieces_joined}
 use Rattle.give_place.specs.declared.Place.{Place}
@@ -11,6 +11,7 @@ pub record PlaceOfByte (ps : List Bytes) (pos : ℕ) (p : Place) : Type 0 where
   pub before : p.offset ≤ pos
   pub there : pos < length (pieces_joined ps)
 
--- whether it is there, and where
-abbrev pub Located : List Bytes → ℕ → Place → Type 0
-Located ps pos p = (p.left ≡ ltb pos (length (pieces_joined ps))) × (p.left ≡ true → PlaceOfByte ps pos p)
+-- where it is; none exactly if it is not there
+abbrev pub Located : List Bytes → ℕ → Option Place → Type 0
+Located ps pos (Some p) = PlaceOfByte ps pos p
+Located ps pos None = ltb pos (length (pieces_joined ps)) ≡ false

@@ -10,10 +10,9 @@ ghost use Rattle.places.specs.Places.{session_len};
 
 use waiting::in_use;
 
-// In which piece, at which of its bytes, and how many bytes that piece has. left: there is one.
-#[derive(Drop)]
+/// Where a byte that waits is: in which piece, at which of its bytes, and how many bytes that piece has.
+#[derive(Clone, Copy)]
 pub struct Place {
-    pub left: bool,
     pub piece: u8,
     pub offset: usize,
     pub length: usize,
@@ -24,23 +23,13 @@ fn first_length(sm: &[u8]) -> usize
     requires { length sm.now ≡ session_len }
     ensures { result ≡ length (first_text (load_of sm.now)) }
 {
-    let first = sm[places::FIRST];
-    if first == phase::PIECE_NONE {
-        return 0;
+    match sm[places::FIRST] {
+        phase::PIECE_NONE => 0,
+        phase::PIECE_SID_AND_PROMPT => text_length::SID_LENGTH + text_length::PROMPT_LENGTH,
+        phase::PIECE_SID => text_length::SID_LENGTH,
+        phase::PIECE_PROTOCOL_ERROR | phase::PIECE_CHECKSUM_ERROR => text_length::ERROR_LENGTH,
+        _ => text_length::FS_LENGTH + in_use(sm[places::SIGNS]) as usize,
     }
-    if first == phase::PIECE_SID_AND_PROMPT {
-        return text_length::SID_LENGTH + text_length::PROMPT_LENGTH;
-    }
-    if first == phase::PIECE_SID {
-        return text_length::SID_LENGTH;
-    }
-    if first == phase::PIECE_PROTOCOL_ERROR {
-        return text_length::ERROR_LENGTH;
-    }
-    if first == phase::PIECE_CHECKSUM_ERROR {
-        return text_length::ERROR_LENGTH;
-    }
-    text_length::FS_LENGTH + in_use(sm[places::SIGNS]) as usize
 }
 
 // Piece k where our block waits: a proposal, or `F>`.
@@ -69,23 +58,20 @@ fn piece_length<'a>(
     if k == 0 {
         return first_length(&sm[..]);
     }
-    let then = sm[places::THEN];
-    if then < phase::PIECE_BLOCK {
-        return text_length::FIXED_LENGTH;
+    match sm[places::THEN] {
+        phase::PIECE_NONE | phase::PIECE_FF | phase::PIECE_FQ => text_length::FIXED_LENGTH,
+        phase::PIECE_BLOCK => block_length(k, &sm[..], &table[..]),
+        _ => text_length::transfer(
+            &table[..],
+            sm[places::SENDING + k as usize],
+            &titles[..],
+            &names[..],
+            &bodies[..],
+        ),
     }
-    if then == phase::PIECE_BLOCK {
-        return block_length(k, &sm[..], &table[..]);
-    }
-    text_length::transfer(
-        &table[..],
-        sm[places::SENDING + k as usize],
-        &titles[..],
-        &names[..],
-        &bodies[..],
-    )
 }
 
-// Byte pos of all that waits.
+/// Where byte `pos` of all that waits is; `None` where no more than `pos` bytes wait.
 pub fn locate<'a>(
     pos: usize,
     sm: &[u8],
@@ -93,44 +79,34 @@ pub fn locate<'a>(
     titles: &'a [u8],
     names: &'a [u8],
     bodies: &[u8],
-) -> Place
+) -> Option<Place>
     requires { length sm.now ≡ session_len }
     ensures { Located (pieces_of (load_of sm.now) table.now titles.now names.now bodies.now) pos result }
 {
     let first = first_length(sm);
     if pos < first {
-        return Place {
-            left: true,
+        return Some(Place {
             piece: 0,
             offset: pos,
             length: first,
-        };
+        });
     }
-    let n = waiting::piece_count(sm);
-    let mut p = pos - first;
-    let mut k = 1u8;
-    while k < n {
-        let m = piece_length(k, sm, table, titles, names, bodies);
-        if p < m {
-            return Place {
-                left: true,
-                piece: k,
-                offset: p,
-                length: m,
-            };
+    let mut offset = pos - first;
+    for piece in 1..waiting::piece_count(sm) {
+        let length = piece_length(piece, sm, table, titles, names, bodies);
+        if offset < length {
+            return Some(Place {
+                piece,
+                offset,
+                length,
+            });
         }
-        p -= m;
-        k += 1;
+        offset -= length;
     }
-    Place {
-        left: false,
-        piece: k,
-        offset: p,
-        length: 0,
-    }
+    None
 }
 
-// Whether more than so many bytes wait from the start of a piece on.
+/// Whether more than `offset` bytes wait from the start of piece `from` on.
 pub fn is_left<'a>(
     from: u8,
     offset: usize,
@@ -143,16 +119,13 @@ pub fn is_left<'a>(
     requires { length sm.now ≡ session_len }
     ensures { result ≡ ltb offset (length (pieces_joined (drop from (pieces_of (load_of sm.now) table.now titles.now names.now bodies.now)))) }
 {
-    let n = waiting::piece_count(sm);
-    let mut p = offset;
-    let mut k = from;
-    while k < n {
-        let m = piece_length(k, sm, table, titles, names, bodies);
-        if p < m {
+    let mut offset = offset;
+    for piece in from..waiting::piece_count(sm) {
+        let length = piece_length(piece, sm, table, titles, names, bodies);
+        if offset < length {
             return true;
         }
-        p -= m;
-        k += 1;
+        offset -= length;
     }
     false
 }

@@ -6,33 +6,27 @@ ghost use Rattle.places.specs.Places.{arrays_len};
 ghost use Rattle.numbers.specs.Whole.{whole_of};
 ghost use Rattle.receive_defined.specs.Receiving.{kept_inbox};
 
-use buffer::Cursor;
+use buffer::Writer;
 use layout::entry;
 use numbers::Numbers;
-use part::at_most;
 
 // The message under way gets its entry in the inbox, behind those kept before.
-pub fn put_message(s: Numbers, mem: &[u8], inbox: &mut [u8])
+pub fn put_message(s: &Numbers, mem: &[u8], inbox: &mut [u8])
     requires { length mem.now ≡ arrays_len }
-    ensures { inbox.new ≡ kept_inbox (whole_of s mem.now) inbox.old }
+    ensures { inbox.new ≡ kept_inbox (whole_of s.entry.now mem.now) inbox.old }
 {
-    let reader = s.reader;
-    let end = places::HEADING + at_most(places::HEADING_MAX as usize, reader.head as usize);
+    let end = places::HEADING + (places::HEADING_MAX as usize).min(s.reader.head as usize);
     let proposal = entry(
         places::PROPOSAL,
         &mem[places::BLOCK..places::AFTER_BLOCK],
         s.now.current as u16,
     );
-    let c = Cursor {
-        at: (s.keep.kept as usize) * places::ENTRY as usize,
-        skip: 0,
-    };
-    let _d = layout_put::put_entry(
-        inbox,
-        c,
+    let mut w = Writer::new(inbox, s.keep.kept as usize * places::ENTRY as usize, 0);
+    layout_put::put_entry(
+        &mut w,
         proposal,
         &mem[places::HEADING..end],
         s.keep.used,
-        reader.body as usize,
+        s.reader.body as usize,
     );
 }

@@ -24,40 +24,33 @@ pub const ENTRY: u8 = places::ENTRY;
 
 pub const PROPOSAL: u8 = places::PROPOSAL;
 
-// The byte at a place; 0 past the end.
+/// The byte at a place; 0 past the end.
 pub fn byte_at(s: &[u8], at: usize) -> u8
     ensures { result ≡ byte_at s.now at }
 {
-    if at < s.len() {
-        return s[at];
-    }
-    0
+    s.get(at).copied().unwrap_or(0)
 }
 
-// A field of at most n bytes.
+/// A field of at most n bytes: its length stands at the place, its bytes after it.
 pub fn field(s: &[u8], at: u8, n: u8) -> &[u8]
     ensures { result.now ≡ field_in n at s.now }
 {
     let i = at as usize;
-    let len = byte_at(s, i);
-    if n < len {
-        return part(s, i + 1, n as usize);
-    }
-    part(s, i + 1, len as usize)
+    part(s, i + 1, byte_at(s, i).min(n) as usize)
 }
 
-// The entry at a place of a buffer of entries of this size.
+/// The entry at a place of a buffer of entries of this size; empty past the end.
 pub fn entry(size: u8, s: &[u8], i: u16) -> &[u8]
     ensures { result.now ≡ entry_at size s.now i }
 {
     let n = size as usize;
-    let at = (i as usize) * n;
-    part(s, at, n)
+    part(s, i as usize * n, n)
 }
 
-// The state for a partner of the record in these bytes.
+/// The state for a partner of the record in these bytes.
+#[tactic(auto, unfolding(crate::specs::Layout::state_for))]
 pub fn state_for(partner: u8, bytes: &[u8]) -> u8
     ensures { result ≡ state_for partner bytes.now }
 {
-    byte_at(bytes, (places::RECORD_STATES as usize) + partner as usize)
+    byte_at(bytes, places::RECORD_STATES as usize + partner as usize)
 }

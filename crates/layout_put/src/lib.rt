@@ -2,10 +2,10 @@
 #![tactic(auto)]
 
 ghost use Rattle.std.specs.Prelude.{◌≡◌, [], ◌∷◌, ◌++◌, ◌+◌, ◌*◌, ◌≤◌, ◌<◌, length, take, drop};
-ghost use Rattle.buffer.specs.Put.{Puts};
+ghost use Rattle.buffer.specs.Put.{Takes};
 ghost use Rattle.layout.specs.Layout.{field_out, fields_out, proposal_out, entry_out};
 
-use buffer::Cursor;
+use buffer::Writer;
 use layout::BYTE_VALUES;
 use number_write::{bytes2, bytes4};
 use part::part;
@@ -14,43 +14,32 @@ use part::part;
 const FIELDS: usize = places::FIELDS as usize;
 
 // A field as it stands in an entry: its length, its bytes, zeros up to n bytes.
-fn put_field(buf: &mut [u8], c: Cursor, w: &[u8], n: u8) -> Cursor
-    ensures { Puts buf.old c (field_out n w.now) result buf.new }
+fn put_field(w: &mut Writer, text: &[u8], n: u8)
+    ensures { Takes w.old (field_out n text.now) w.new }
 {
-    let c1 = buffer::put_byte(buf, c, (w.len() % BYTE_VALUES) as u8);
+    w.put_byte((text.len() % BYTE_VALUES) as u8);
     let m = n as usize;
-    if m <= w.len() {
-        return buffer::put(buf, c1, &w[..m]);
+    if m <= text.len() {
+        return w.put(&text[..m]);
     }
-    let c2 = buffer::put(buf, c1, w);
-    buffer::put_zeros(buf, c2, m - w.len())
+    w.put(text);
+    w.put_zeros(m - text.len());
 }
 
 // The fields of a message.
-fn put_fields(
-    buf: &mut [u8],
-    c: Cursor,
-    form: u8,
-    kind: u8,
-    from: &[u8],
-    at: &[u8],
-    to: &[u8],
-    bid: &[u8],
-) -> Cursor
-    ensures { Puts buf.old c (fields_out form kind from.now at.now to.now bid.now) result buf.new }
+fn put_fields(w: &mut Writer, form: u8, kind: u8, from: &[u8], at: &[u8], to: &[u8], bid: &[u8])
+    ensures { Takes w.old (fields_out form kind from.now at.now to.now bid.now) w.new }
 {
-    let start = [form, kind];
-    let c1 = buffer::put(buf, c, &start);
-    let c2 = put_field(buf, c1, from, places::CALL_MAX);
-    let c3 = put_field(buf, c2, at, places::AT_MAX);
-    let c4 = put_field(buf, c3, to, places::CALL_MAX);
-    put_field(buf, c4, bid, places::BID_MAX)
+    w.put(&[form, kind]);
+    put_field(w, from, places::CALL_MAX);
+    put_field(w, at, places::AT_MAX);
+    put_field(w, to, places::CALL_MAX);
+    put_field(w, bid, places::BID_MAX);
 }
 
-// A proposal in session memory.
+/// A proposal in session memory.
 pub fn put_proposal(
-    buf: &mut [u8],
-    c: Cursor,
+    w: &mut Writer,
     form: u8,
     kind: u8,
     from: &[u8],
@@ -58,29 +47,19 @@ pub fn put_proposal(
     to: &[u8],
     bid: &[u8],
     size: usize,
-) -> Cursor
-    ensures { Puts buf.old c (proposal_out form kind from.now at.now to.now bid.now size) result buf.new }
+)
+    ensures { Takes w.old (proposal_out form kind from.now at.now to.now bid.now size) w.new }
 {
-    let c1 = put_fields(buf, c, form, kind, from, at, to, bid);
-    let n = bytes4(size);
-    buffer::put(buf, c1, &n)
+    put_fields(w, form, kind, from, at, to, bid);
+    w.put(&bytes4(size));
 }
 
-// A message in the inbox: the fields of its proposal, its heading, and where its body of n bytes lies in the store.
-pub fn put_entry(
-    buf: &mut [u8],
-    c: Cursor,
-    proposal: &[u8],
-    heading: &[u8],
-    start: usize,
-    n: usize,
-) -> Cursor
-    ensures { Puts buf.old c (entry_out proposal.now heading.now start n) result buf.new }
+/// A message in the inbox: the fields of its proposal, its heading, and where its body of `n` bytes lies in the store.
+pub fn put_entry(w: &mut Writer, proposal: &[u8], heading: &[u8], start: usize, n: usize)
+    ensures { Takes w.old (entry_out proposal.now heading.now start n) w.new }
 {
-    let c1 = buffer::put(buf, c, part(proposal, 0, FIELDS));
-    let c2 = put_field(buf, c1, heading, places::HEADING_MAX);
-    let s = bytes4(start);
-    let c3 = buffer::put(buf, c2, &s);
-    let l = bytes2(n);
-    buffer::put(buf, c3, &l)
+    w.put(part(proposal, 0, FIELDS));
+    put_field(w, heading, places::HEADING_MAX);
+    w.put(&bytes4(start));
+    w.put(&bytes2(n));
 }

@@ -1,89 +1,72 @@
 // A byte of a line: dropped, one more in its line, the line's end and what it leaves, or a line too long.
 #![tactic(auto)]
 
-ghost use Rattle.std.specs.Prelude.{◌≡◌, ◌<◌, length, take};
+ghost use Rattle.std.specs.Prelude.{◌≡◌, ◌<◌, length};
 ghost use Rattle.grammar.specs.Bytes.{CR};
 ghost use Rattle.grammar.specs.Lines.{line_limit, ends};
 ghost use Rattle.places.specs.Places.{arrays_len};
-ghost use Rattle.numbers.specs.Whole.{line_in, whole_of};
+ghost use Rattle.numbers.specs.Whole.{whole_of};
 ghost use Rattle.receive_defined.specs.Receiving.{line_done, longer, line_moved, line_step_of};
+ghost use Rattle.settling.specs.Answer.{answer_of};
 
 use line::LineByte;
 use numbers::Numbers;
-use settling::Left;
+use refusal::Refusal;
 
-// The bytes of a line among the state's arrays.
-const LINE_ROOM: usize = places::LINE_ROOM;
-
-// The line's bytes out of the state's arrays, so that these can be lent on while the line is judged.
-fn line_of(mem: &[u8]) -> [u8; LINE_ROOM]
-    requires { length mem.now ≡ arrays_len }
-    ensures { result ≡ line_in mem.now }
-{
-    let mut line = [0u8; LINE_ROOM];
-    buffer::put_whole(&mut line, 0, &mem[places::LINE..places::BLOCK]);
-    line
-}
-
-// The CR of a line: the line is judged up to its length, and what it comes to is settled.
+// The CR of a line: the line is judged up to its length where it stands, the arrays on both sides of it lent, and what it comes to is settled.
 fn ends(
-    s: Numbers,
+    s: &mut Numbers,
     mem: &mut [u8],
     table: &mut [u8],
     known: &[u8],
     inbox: &[u8],
     store: usize,
-) -> Left
+) -> Result<(), Refusal>
     requires { length mem.old ≡ arrays_len }
-    ensures { line_done result.answer (whole_of result.session mem.new) table.new ≡ line_moved ends (whole_of s mem.old) CR table.old known.now inbox.now store }
+    ensures { line_done (answer_of result) (whole_of s.new mem.new) table.new ≡ line_moved ends (whole_of s.old mem.old) CR table.old known.now inbox.now store }
 {
-    let line = line_of(mem);
+    let (front, block) = mem.split_at_mut(places::BLOCK);
+    let (deferred, rest) = front.split_at_mut(places::HEADING);
+    let at = places::LINE - places::HEADING;
     let n = part::at_most(line::LINE_LIMIT, s.line.len as usize);
-    let v = awaited_line::judge(&line[..n], s, mem, table, known, inbox, store);
-    settling::settle(v, true, mem, table)
+    let line = &rest[at..at + n];
+    let judged = awaited_line::judge(line, s, deferred, block, table, known, inbox, store);
+    settling::settle(judged, s, true, mem, table)
 }
 
 // One byte more in the line.
-fn longer(s: Numbers, b: u8, mem: &mut [u8]) -> Numbers
-    requires { (s.line.len < line_limit) × (length mem.old ≡ arrays_len) }
-    ensures { whole_of result mem.new ≡ longer (whole_of s mem.old) b }
+fn longer(s: &mut Numbers, b: u8, mem: &mut [u8])
+    requires { (s.old.line.len < line_limit) × (length mem.old ≡ arrays_len) }
+    ensures { whole_of s.new mem.new ≡ longer (whole_of s.old mem.old) b }
 {
-    let n = places::LINE + s.line.len as usize;
-    mem[n] = b;
-    let len = s.line.len + 1;
-    let mut t = s;
-    t.line.len = len;
-    t.line.after_cr = false;
-    t
+    mem[places::LINE + s.line.len as usize] = b;
+    s.line.len += 1;
+    s.line.after_cr = false;
 }
 
 // A byte of a line. mem: the state's arrays.
 pub fn line_byte(
-    s: Numbers,
+    s: &mut Numbers,
     b: u8,
     mem: &mut [u8],
     table: &mut [u8],
     known: &[u8],
     inbox: &[u8],
     store: usize,
-) -> Left
+) -> Result<(), Refusal>
     requires { length mem.old ≡ arrays_len }
-    ensures { line_done result.answer (whole_of result.session mem.new) table.new ≡ line_step_of (whole_of s mem.old) b table.old known.now inbox.now store }
+    ensures { line_done (answer_of result) (whole_of s.new mem.new) table.new ≡ line_step_of (whole_of s.old mem.old) b table.old known.now inbox.now store }
 {
-    let r = line::byte_does(false, s.line.len as usize, b);
-    match r {
-        LineByte::Dropped => Left {
-            answer: refusal::NONE,
-            session: s,
-        },
+    match line::byte_does(false, s.line.len as usize, b) {
+        LineByte::Dropped => Ok(()),
         LineByte::Ends => ends(s, mem, table, known, inbox, store),
-        LineByte::Grows => Left {
-            answer: refusal::NONE,
-            session: longer(s, b, mem),
-        },
-        LineByte::Overruns => Left {
-            answer: refusal::LINE_TOO_LONG,
-            session: settling::refused(refusal::LINE_TOO_LONG, s),
-        },
+        LineByte::Grows => {
+            longer(s, b, mem);
+            Ok(())
+        }
+        LineByte::Overruns => {
+            settling::refuse(s, Refusal::LineTooLong as u8);
+            Err(Refusal::LineTooLong)
+        }
     }
 }

@@ -1,13 +1,14 @@
-// What a line comes to: its answer, the marks to set, and the state after it.
+// What a line comes to: whose turn it then is, and the marks to set; or why it is refused.
 #![tactic(auto)]
 
-ghost use Rattle.std.specs.Prelude.{◌≡◌};
+ghost use Rattle.std.specs.Prelude.{◌≡◌, Ok};
 ghost use Rattle.numbers.specs.Whole.{Arrays, keep_with, session_of};
-ghost use Rattle.line_effect.specs.Judge.{no_marks, refusal, went_on, turn_marks, settled_keep};
-ghost use Rattle.line_effect.specs.Verdict.{judged_of};
+ghost use Rattle.numbers.specs.declared.Numbers.{Numbers};
+ghost use Rattle.line_effect.specs.Judge.{no_marks, went_on, turn_marks, settled_keep};
+ghost use Rattle.line_effect.specs.Verdict.{turn_number, judged_of};
 
 use five::none;
-use numbers::{KeepNumbers, Numbers};
+use numbers::KeepNumbers;
 use session_memory::Five;
 
 // The records at these places get this state; deferred: how many others an FS line defers.
@@ -18,14 +19,28 @@ pub struct Marks {
     pub deferred: u8,
 }
 
-// What a line comes to: 01's number, or 0 with the numbers after it, the marks to set, and whether it is then our turn (phase::OUR_TURN and
-// its like). Where the line is refused they are as they were.
+// Whose turn it is after a line or a message.
+#[derive(Clone, Copy, PartialEq, Eq)]
+pub enum Turn {
+    Theirs,
+    Ours,
+    // ours, and the partner's turn just now was FF
+    OursAfterFf,
+}
+
+impl From<Turn> for u8 {
+    ghost from_gives = { λ turn n. n ≡ turn_number turn };
+
+    fn from(turn: Turn) -> u8 {
+        turn as u8
+    }
+}
+
+// What a line that is taken comes to beside the state: whose turn it then is, and the marks to set.
 #[derive(Clone, Copy)]
 pub struct Verdict {
-    pub answer: u8,
-    pub speaks: u8,
+    pub turn: Turn,
     pub marks: Marks,
-    pub next: Numbers,
 }
 
 // Nothing is marked.
@@ -39,27 +54,13 @@ pub fn unmarked() -> Marks
     }
 }
 
-// The line is refused: 01's number, and the state as it was.
-pub fn refusal(answer: u8, s: Numbers) -> Verdict
-    ensures { (a : Arrays) → judged_of result a ≡ refusal answer (session_of s a) }
-{
-    Verdict {
-        answer: answer,
-        speaks: phase::NOT_OUR_TURN,
-        marks: unmarked(),
-        next: s,
-    }
-}
-
 // The line is taken, and nothing else comes of it.
-pub fn went(s: Numbers) -> Verdict
-    ensures { (a : Arrays) → judged_of result a ≡ went_on (session_of s a) }
+pub fn went() -> Verdict
+    ensures { (s : Numbers) (a : Arrays) → judged_of (Ok result) s a ≡ went_on (session_of s a) }
 {
     Verdict {
-        answer: refusal::NONE,
-        speaks: phase::NOT_OUR_TURN,
+        turn: Turn::Theirs,
         marks: unmarked(),
-        next: s,
     }
 }
 

@@ -1,29 +1,20 @@
-// A number of 1 to 10 digits.
+//! A number of 1 to 10 digits.
 #![tactic(auto)]
 
-ghost use Rattle.std.specs.Prelude.{◌≡◌};
+ghost use Rattle.std.specs.Prelude.{◌≡◌, ◌^◌, ◌<◌, IfSome};
 ghost use Rattle.pages.specs.Fields.{read_long};
-ghost use Rattle.long_number.specs.Meaning.{long_is};
+ghost use Rattle.byte.specs.Said.{said};
 
-use byte::Class;
-use field::is_field;
+use size::read_number;
 
 // The most digits that a number has.
 const MOST_DIGITS: usize = 10;
 
-// The number that a field says, or that it says none.
-#[derive(Drop)]
-pub enum Long {
-    Value(u64),
-    Bad,
-}
-
-// The number that a field says.
-pub fn read_long(s: &[u8]) -> Long
-    ensures { long_is result ≡ read_long s.now }
+/// The number that a field says.
+#[tactic(auto, unfolding(pages::specs::Fields::read_long, pages::specs::Fields::is_long))]
+pub fn read_long(s: &[u8]) -> Option<u64>
+    ensures value { said result ≡ read_long s.now }
+    ensures below { IfSome result (λ n. n < 10 ^ 10) }
 {
-    if !is_field(s, Class::Digit, MOST_DIGITS) {
-        return Long::Bad;
-    }
-    Long::Value(size::number(s))
+    read_number::<MOST_DIGITS>(s)
 }

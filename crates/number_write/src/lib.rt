@@ -4,36 +4,25 @@
 ghost use Rattle.std.specs.Prelude.{◌≡◌};
 ghost use Rattle.layout.specs.Layout.{le2, le4, le8};
 
-use layout::{BYTE_VALUES, FOUR_BYTE_VALUES, THREE_BYTE_VALUES, TWO_BYTE_VALUES};
-
-// A number in two bytes.
+/// A number modulo 2 ^ 16 in two bytes.
 pub fn bytes2(x: usize) -> [u8; 2]
     ensures { result ≡ le2 x }
 {
-    let low = x % BYTE_VALUES;
-    let high = x / BYTE_VALUES % BYTE_VALUES;
-    [low as u8, high as u8]
+    let b = x.to_le_bytes();
+    [b[0], b[1]]
 }
 
-// A number in four bytes.
+/// A number modulo 2 ^ 32 in four bytes.
 pub fn bytes4(x: usize) -> [u8; 4]
     ensures { result ≡ le4 x }
 {
-    [
-        (x % BYTE_VALUES) as u8,
-        (x / BYTE_VALUES % BYTE_VALUES) as u8,
-        (x / TWO_BYTE_VALUES % BYTE_VALUES) as u8,
-        (x / THREE_BYTE_VALUES % BYTE_VALUES) as u8,
-    ]
+    let b = x.to_le_bytes();
+    [b[0], b[1], b[2], b[3]]
 }
 
-// A number in eight bytes.
+/// A number in eight bytes.
 pub fn bytes8(x: usize) -> [u8; 8]
     ensures { result ≡ le8 x }
 {
-    let low = bytes4(x);
-    let high = bytes4(x / FOUR_BYTE_VALUES);
-    [
-        low[0], low[1], low[2], low[3], high[0], high[1], high[2], high[3],
-    ]
+    x.to_le_bytes()
 }

@@ -1,6 +1,6 @@
 -- 01, "Open checks role (0 called, 1 caller), sizes and known BIDs first, then records in order; of two records with one BID the later is
 -- bad."
-use Rattle.std.specs.Prelude.{Bool, true, cond, not, ◌&&◌, ℕ, zero, suc, ◌-◌, ◌/◌, ◌%◌, eqb, leb, ltb, length}
+use Rattle.std.specs.Prelude.{◌≡◌, Result, Ok, Err, Bool, true, cond, not, ◌&&◌, ℕ, zero, suc, ◌-◌, ◌/◌, ◌%◌, eqb, leb, ltb, length}
 use Rattle.grammar.specs.Bytes.{Bytes}
 use Rattle.grammar.specs.Refusals.{bad_memory, no_place}
 use Rattle.grammar.specs.Fields.{Form, form_is, is_call, is_at, is_bid, is_heading, is_body}
@@ -83,6 +83,11 @@ fault_from table titles names bodies i (suc n) =
 
 unfoldable pub table_fault : Bytes → Bytes → Bytes → Bytes → ℕ
 table_fault table titles names bodies = fault_from table titles names bodies 0 (record_count table)
+
+-- The code's answer to it: every record is good, or the place of the first that isn't.
+abbrev pub Faults : Result Unit ℕ → ℕ → Type 0
+Faults (Ok u) fault = fault ≡ no_place
+Faults (Err place) fault = (place ≡ fault) × (fault ≡ no_place → ⊥)
 
 -- ---------------------------------------------------------------- sizes and known BIDs
 

@@ -6,19 +6,20 @@ ghost use Rattle.grammar.specs.Fields.{form_is, is_call, is_at, is_bid};
 ghost use Rattle.grammar.specs.Turns.{is_type};
 ghost use Rattle.grammar.specs.Refusals.{bad_memory};
 ghost use Rattle.layout.specs.Layout.{extent, byte_at, field_in, title_extent, name_extent, body_extent};
-ghost use Rattle.entries.specs.Decoded.{record_count, known_limit};
+ghost use Rattle.entries.specs.Decoded.{known_limit};
 ghost use Rattle.give.specs.Giving.{reply};
 ghost use Rattle.places.specs.Places.{at_max, bid_max, call_max, record_form, entry_len, known_len, record_len, session_len};
 ghost use Rattle.mail.specs.Mail.{record_limit, place_limit};
 ghost use Rattle.record_text.specs.Texts.{file_form};
 ghost use Rattle.sheet.specs.Sheet.{no_sheet};
 ghost use Rattle.open.specs.Lending.{lending};
-ghost use Rattle.open.specs.Opening.{length_ok, states_ok, numbers_ok, fields_ok, within, heading_ok, body_ok, texts_ok, record_ok, place_ok, table_fault, known_ok, entries_ok, sizes_ok, before_ok, open_of, Opened};
+ghost use Rattle.open.specs.Opening.{length_ok, states_ok, numbers_ok, fields_ok, within, heading_ok, body_ok, texts_ok, record_ok, place_ok, table_fault, Faults, known_ok, entries_ok, sizes_ok, before_ok, open_of, Opened};
 
 use give::{NO_PLACE, Reply};
 use layout::{byte_at, entry, state_for};
 use number_read::{number2, number4};
 use part::part;
+use refusal::Refusal;
 use session_memory::Sizes;
 use sheet::Sheet;
 
@@ -59,6 +60,15 @@ const MESSAGES_MAX: usize = entries::MESSAGES_MAX as usize;
 
 const ENTRY: usize = places::ENTRY as usize;
 
+// The table of records, and the stores that their titles, names and bodies lie in.
+#[derive(Clone, Copy)]
+struct Records<'a> {
+    table: &'a [u8],
+    titles: &'a [u8],
+    names: &'a [u8],
+    bodies: &'a [u8],
+}
+
 // The field's length fits its place.
 fn length_ok(c: &[u8], at: u8, n: u8) -> bool
     ensures { result ≡ length_ok c.now at n }
@@ -70,109 +80,84 @@ fn length_ok(c: &[u8], at: u8, n: u8) -> bool
 fn type_ok(kind: u8) -> bool
     ensures { result ≡ is_type kind }
 {
-    if kind == b'P' {
-        return true;
-    }
-    kind == b'B'
+    matches!(kind, b'P' | b'B')
 }
 
 // Every partner's state is one.
 fn states_ok(c: &[u8]) -> bool
     ensures { result ≡ states_ok c.now }
 {
-    let mut p = 0u8;
-    while p < places::PARTNERS {
+    for p in 0..places::PARTNERS {
         if phase::STATE_DECLINED < state_for(p, c) {
             return false;
         }
-        p += 1;
     }
     true
 }
 
 // States, form, type and size.
+#[tactic(auto, unfolding(crate::specs::Opening::numbers_ok))]
 fn numbers_ok(c: &[u8]) -> bool
     ensures { result ≡ numbers_ok c.now }
 {
-    if !states_ok(c) {
-        return false;
-    }
-    if record_text::FORM_FILE < byte_at(c, RECORD_FORM) {
-        return false;
-    }
-    if !type_ok(byte_at(c, RECORD_TYPE)) {
-        return false;
-    }
-    number4(c, RECORD_SIZE_FIELD) <= SIZE_MAX
+    states_ok(c)
+        && byte_at(c, RECORD_FORM) <= record_text::FORM_FILE
+        && type_ok(byte_at(c, RECORD_TYPE))
+        && number4(c, RECORD_SIZE_FIELD) <= SIZE_MAX
 }
 
 // The field at this place is a callsign.
+// Stays, beside `at_ok` and `bid_ok`: each of the three is one line; one function for all would need an enum with two methods.
 fn call_ok(c: &[u8], at: u8) -> bool
     ensures { result ≡ length_ok c.now at call_max && is_call (field_in call_max at c.now) }
 {
-    if !length_ok(c, at, places::CALL_MAX) {
-        return false;
-    }
-    field::is_call(layout::field(c, at, places::CALL_MAX))
+    length_ok(c, at, places::CALL_MAX) && field::is_call(layout::field(c, at, places::CALL_MAX))
 }
 
 // The field at this place is an at field.
 fn at_ok(c: &[u8], at: u8) -> bool
     ensures { result ≡ length_ok c.now at at_max && is_at (field_in at_max at c.now) }
 {
-    if !length_ok(c, at, places::AT_MAX) {
-        return false;
-    }
-    field::is_at(layout::field(c, at, places::AT_MAX))
+    length_ok(c, at, places::AT_MAX) && field::is_at(layout::field(c, at, places::AT_MAX))
 }
 
 // The field at this place is a BID.
 fn bid_ok(c: &[u8], at: u8) -> bool
     ensures { result ≡ length_ok c.now at bid_max && is_bid (field_in bid_max at c.now) }
 {
-    if !length_ok(c, at, places::BID_MAX) {
-        return false;
-    }
-    field::is_bid(layout::field(c, at, places::BID_MAX))
+    length_ok(c, at, places::BID_MAX) && field::is_bid(layout::field(c, at, places::BID_MAX))
 }
 
 // From, at, to and BID.
+#[tactic(auto, unfolding(crate::specs::Opening::fields_ok))]
 fn fields_ok(c: &[u8]) -> bool
     ensures { result ≡ fields_ok c.now }
 {
-    if !call_ok(c, places::RECORD_FROM) {
-        return false;
-    }
-    if !at_ok(c, places::RECORD_AT) {
-        return false;
-    }
-    if !call_ok(c, places::RECORD_TO) {
-        return false;
-    }
-    bid_ok(c, places::RECORD_BID)
+    call_ok(c, places::RECORD_FROM)
+        && at_ok(c, places::RECORD_AT)
+        && call_ok(c, places::RECORD_TO)
+        && bid_ok(c, places::RECORD_BID)
 }
 
 // The len bytes from start on lie in the store.
+#[tactic(auto, unfolding(crate::specs::Opening::within))]
 fn lies_within(s: &[u8], start: usize, len: usize) -> bool
     ensures { result ≡ within s.now (extent start len) }
 {
-    if s.len() < start {
-        return false;
-    }
-    len <= s.len() - start
+    start <= s.len() && len <= s.len() - start
 }
 
 // A title or name; one that is not needed may be empty.
+#[tactic(auto, unfolding(crate::specs::Opening::heading_ok))]
 fn heading_ok(s: &[u8], start: usize, len: usize, needed: bool) -> bool
     ensures { result ≡ heading_ok s.now (extent start len) needed }
 {
-    if !lies_within(s, start, len) {
-        return false;
-    }
-    if len == 0 {
-        return !needed;
-    }
-    field::is_heading(part(s, start, len))
+    lies_within(s, start, len)
+        && if len == 0 {
+            !needed
+        } else {
+            field::is_heading(part(s, start, len))
+        }
 }
 
 // The title; forms 0 and 1 need one.
@@ -206,92 +191,61 @@ fn body_ok(c: &[u8], bodies: &[u8]) -> bool
     let form = byte_at(c, RECORD_FORM);
     let start = number4(c, RECORD_BODY);
     let len = number2(c, RECORD_BODY_LEN);
-    if !lies_within(bodies, start, len) {
-        return false;
-    }
-    field::is_body(form, part(bodies, start, len))
+    lies_within(bodies, start, len) && field::is_body(form, part(bodies, start, len))
 }
 
 // Title, name and body.
-fn texts_ok(c: &[u8], titles: &[u8], names: &[u8], bodies: &[u8]) -> bool
-    ensures { result ≡ texts_ok c.now titles.now names.now bodies.now }
+#[tactic(auto, unfolding(crate::specs::Opening::texts_ok))]
+fn texts_ok(c: &[u8], records: &Records) -> bool
+    ensures { result ≡ texts_ok c.now records.now.titles.now records.now.names.now records.now.bodies.now }
 {
-    if !title_ok(c, titles) {
-        return false;
-    }
-    if !name_ok(c, names) {
-        return false;
-    }
-    body_ok(c, bodies)
+    title_ok(c, records.titles) && name_ok(c, records.names) && body_ok(c, records.bodies)
 }
 
 // The record in these bytes is good.
-fn record_ok(c: &[u8], titles: &[u8], names: &[u8], bodies: &[u8]) -> bool
-    ensures { result ≡ record_ok c.now titles.now names.now bodies.now }
+#[tactic(auto, unfolding(crate::specs::Opening::record_ok))]
+fn record_ok(c: &[u8], records: &Records) -> bool
+    ensures { result ≡ record_ok c.now records.now.titles.now records.now.names.now records.now.bodies.now }
 {
-    if !numbers_ok(c) {
-        return false;
-    }
-    if !fields_ok(c) {
-        return false;
-    }
-    texts_ok(c, titles, names, bodies)
+    numbers_ok(c) && fields_ok(c) && texts_ok(c, records)
 }
 
 // The record at this place is good, and no earlier one has its BID.
-fn place_ok(table: &[u8], titles: &[u8], names: &[u8], bodies: &[u8], i: u16) -> bool
-    ensures { result ≡ place_ok table.now titles.now names.now bodies.now i }
+#[tactic(auto, unfolding(crate::specs::Opening::place_ok))]
+fn place_ok(records: &Records, i: u16) -> bool
+    ensures { result ≡ place_ok records.now.table.now records.now.titles.now records.now.names.now records.now.bodies.now i }
 {
-    let c = entry(places::RECORD, table, i);
-    if !record_ok(c, titles, names, bodies) {
-        return false;
-    }
-    !bid::has_bid(
-        places::RECORD,
-        table,
-        i,
-        places::RECORD_BID,
-        layout::field(c, places::RECORD_BID, places::BID_MAX),
-    )
+    let c = entry(places::RECORD, records.table, i);
+    record_ok(c, records)
+        && !bid::has_bid(
+            places::RECORD,
+            records.table,
+            i,
+            places::RECORD_BID,
+            layout::field(c, places::RECORD_BID, places::BID_MAX),
+        )
 }
 
-// How many records the table has, 64 at most.
-fn records(table: &[u8]) -> u8
-    ensures { result ≡ record_count table.now }
+// Every record of the table is good, or else the place of the first that isn't.
+fn table_ok(records: &Records) -> Result<(), u8>
+    ensures { Faults result (table_fault records.now.table.now records.now.titles.now records.now.names.now records.now.bodies.now) }
 {
-    let n = table.len() / RECORD;
-    if RECORDS_MAX < n {
-        return RECORDS_MAX as u8;
-    }
-    n as u8
-}
-
-// The place of the first bad record; 255 where there is none.
-fn table_fault(table: &[u8], titles: &[u8], names: &[u8], bodies: &[u8]) -> u8
-    ensures { result ≡ table_fault table.now titles.now names.now bodies.now }
-{
-    let n = records(table);
-    let mut i = 0u8;
-    while i < n {
-        if !place_ok(table, titles, names, bodies, i as u16) {
-            return i;
+    for i in 0..entries::records(records.table) {
+        if !place_ok(records, i) {
+            return Err(i as u8);
         }
-        i += 1;
     }
-    NO_PLACE
+    Ok(())
 }
 
 // Every known BID is one.
 fn known_ok(known: &[u8]) -> bool
     ensures { result ≡ known_ok known.now }
 {
-    let n = entries::known_bids(known);
-    let mut i = 0u16;
-    while i < n {
+    for i in 0..entries::known_bids(known) {
         if !bid_ok(entry(places::KNOWN, known, i), 0) {
             return false;
         }
-        i += 1;
     }
     true
 }
@@ -301,42 +255,29 @@ fn entries_ok(len: usize, size: usize, most: usize) -> bool
     requires { 0 < size }
     ensures { result ≡ entries_ok len size most }
 {
-    if len % size != 0 {
-        return false;
-    }
-    len / size <= most
+    len % size == 0 && len / size <= most
 }
 
 // The lengths of session memory, table, known list and inbox are good.
+#[tactic(auto, unfolding(crate::specs::Opening::sizes_ok))]
 fn sizes_ok(sm: usize, table: usize, known: usize, inbox: usize) -> bool
     ensures { result ≡ eqb sm session_len && (entries_ok table record_len record_limit && (entries_ok known known_len known_limit && entries_ok inbox entry_len place_limit)) }
 {
-    if sm != places::SESSION {
-        return false;
-    }
-    if !entries_ok(table, RECORD, RECORDS_MAX) {
-        return false;
-    }
-    if !entries_ok(known, KNOWN, KNOWN_MAX) {
-        return false;
-    }
-    entries_ok(inbox, ENTRY, MESSAGES_MAX)
+    sm == places::SESSION
+        && entries_ok(table, RECORD, RECORDS_MAX)
+        && entries_ok(known, KNOWN, KNOWN_MAX)
+        && entries_ok(inbox, ENTRY, MESSAGES_MAX)
 }
 
 // All that is tested before the records: partner, role, sizes, known BIDs. It is not shown the stores: no such test looks at them.
+#[tactic(auto, unfolding(crate::specs::Opening::sizes_ok))]
 fn before_ok(role: u8, partner: u8, sm: &[u8], table: &[u8], known: &[u8], inbox: &[u8]) -> bool
     ensures { result ≡ before_ok (lending role partner sm.now table.now [] [] [] known.now inbox.now []) }
 {
-    if places::PARTNERS <= partner {
-        return false;
-    }
-    if CALLER < role {
-        return false;
-    }
-    if !sizes_ok(sm.len(), table.len(), known.len(), inbox.len()) {
-        return false;
-    }
-    known_ok(known)
+    partner < places::PARTNERS
+        && role <= CALLER
+        && sizes_ok(sm.len(), table.len(), known.len(), inbox.len())
+        && known_ok(known)
 }
 
 // Answer 1, bad memory, with this place.
@@ -344,8 +285,19 @@ fn bad(place: u8) -> Reply
     ensures { result ≡ reply bad_memory place 0 }
 {
     Reply {
-        answer: refusal::BAD_MEMORY,
-        place: place,
+        answer: Refusal::BadMemory as u8,
+        place,
+        count: 0,
+    }
+}
+
+// Answer 0: the session is open.
+fn opened() -> Reply
+    ensures { result ≡ reply 0 0 0 }
+{
+    Reply {
+        answer: refusal::NONE,
+        place: 0,
         count: 0,
     }
 }
@@ -363,7 +315,9 @@ fn no_sheet() -> Sheet
     }
 }
 
-// Opens a session in session memory: role 0 called, 1 caller; partner 0 to 7.
+/// Opens a session in session memory: role 0 called, 1 caller; partner 0 to 7. Answers 0, or 1 (bad memory) with the place of the first bad
+/// record, 255 where another test fails; session memory is as it was then.
+// Stays: ten parameters, as C lends them to `fringemole_open`.
 pub fn open(
     role: u8,
     partner: u8,
@@ -381,12 +335,17 @@ pub fn open(
     if !before_ok(role, partner, sm, table, known, inbox) {
         return bad(NO_PLACE);
     }
-    let place = table_fault(table, titles, names, bodies);
-    if place != NO_PLACE {
+    let records = Records {
+        table,
+        titles,
+        names,
+        bodies,
+    };
+    if let Err(place) = table_ok(&records) {
         return bad(place);
     }
     let waiting = tally::counted(partner, table, no_sheet());
-    let z = Sizes {
+    let sizes = Sizes {
         table: table.len(),
         titles: titles.len(),
         names: names.len(),
@@ -395,11 +354,7 @@ pub fn open(
         inbox: inbox.len(),
         store: store.len(),
     };
-    open_memory::save_sizes(sm, z);
+    open_memory::save_sizes(sm, sizes);
     open_memory::save_fresh(sm, role == CALLER, partner, waiting);
-    Reply {
-        answer: refusal::NONE,
-        place: 0,
-        count: 0,
-    }
+    opened()
 }

@@ -2,52 +2,46 @@
 #![tactic(auto)]
 
 ghost use Rattle.std.specs.Prelude.{◌≡◌, ◌++◌, length, replicate};
-ghost use Rattle.buffer.specs.Put.{Puts};
+ghost use Rattle.buffer.specs.Put.{Takes};
 ghost use Rattle.layout.specs.Layout.{le8};
 ghost use Rattle.places.specs.Places.{session_len, arrays_len};
 ghost use Rattle.session_memory.specs.State.{no_five, save_of, save_sizes, fresh_of};
 ghost use Rattle.numbers.specs.Whole.{whole_of};
 ghost use Rattle.open_memory.specs.Fresh.{fresh_numbers};
 
-use buffer::Cursor;
+use buffer::Writer;
 use number_write::bytes8;
 use numbers::{AwaitNumbers, KeepNumbers, LineNumbers, Numbers};
 use session_memory::{Five, Say, Sizes, Tally, Terms};
+use transfer_step::Reader;
 
-// A number of eight bytes, at the cursor.
-fn put8(sm: &mut [u8], c: Cursor, x: usize) -> Cursor
-    ensures { Puts sm.old c (le8 x) result sm.new }
+// A number of eight bytes.
+fn put8(w: &mut Writer, x: usize)
+    ensures { Takes w.old (le8 x) w.new }
 {
-    let b = bytes8(x);
-    buffer::put(sm, c, &b)
+    w.put(&bytes8(x));
 }
 
 // The sizes of the table and its three stores.
-fn save_table_sizes(sm: &mut [u8], c: Cursor, z: Sizes) -> Cursor
-    ensures { Puts sm.old c (le8 z.table ++ (le8 z.titles ++ (le8 z.names ++ le8 z.bodies))) result sm.new }
+fn save_table_sizes(w: &mut Writer, z: Sizes)
+    ensures { Takes w.old (le8 z.table ++ (le8 z.titles ++ (le8 z.names ++ le8 z.bodies))) w.new }
 {
-    let c1 = put8(sm, c, z.table);
-    let c2 = put8(sm, c1, z.titles);
-    let c3 = put8(sm, c2, z.names);
-    put8(sm, c3, z.bodies)
+    put8(w, z.table);
+    put8(w, z.titles);
+    put8(w, z.names);
+    put8(w, z.bodies);
 }
 
-// The mark and the sizes into session memory.
+/// The mark and the sizes into session memory.
 pub fn save_sizes(sm: &mut [u8], z: Sizes)
     ensures { sm.new ≡ save_sizes sm.old z }
 {
-    let c = buffer::put(
-        sm,
-        Cursor {
-            at: places::MARK,
-            skip: 0,
-        },
-        b"FM01",
-    );
-    let c1 = save_table_sizes(sm, c, z);
-    let c2 = put8(sm, c1, z.known);
-    let c3 = put8(sm, c2, z.inbox);
-    let _c4 = put8(sm, c3, z.store);
+    let mut w = Writer::new(sm, places::MARK, 0);
+    w.put(b"FM01");
+    save_table_sizes(&mut w, z);
+    put8(&mut w, z.known);
+    put8(&mut w, z.inbox);
+    put8(&mut w, z.store);
 }
 
 // The most numbers of a block, as a length.
@@ -93,7 +87,7 @@ fn numbers_of(partner: u8, tally: Tally, awaited: u8, first: u8) -> Numbers
             used: 0,
             sending: none,
         },
-        reader: transfer_step::start(0),
+        reader: Reader::start(0),
         line: LineNumbers {
             after_cr: false,
             len: 0,

@@ -1,13 +1,15 @@
 // How we answer the partner's proposals: a sign for each of a block, by what we have, what has room, and what is promised in the block so far.
 #![tactic(auto)]
 
-ghost use Rattle.std.specs.Prelude.{◌≡◌, [], ◌∷◌, ◌++◌, ◌+◌, ◌-◌, ◌≤◌, ◌<◌};
+ghost use Rattle.std.specs.Prelude.{◌≡◌, [], ◌∷◌, ◌++◌, ◌+◌, ◌≤◌, ◌<◌};
 ghost use Rattle.grammar.specs.Bytes.{Bytes, byte_values, word_values};
+ghost use Rattle.std.specs.List.{list_any};
 ghost use Rattle.grammar.specs.Answers.{write_sign};
-ghost use Rattle.session.specs.Choices.{among, proposal_bids, have_bid, sign_for};
-ghost use Rattle.places.specs.Places.{proposal_size_at, proposal_len};
+ghost use Rattle.grammar.specs.Fields.{same_bid};
+ghost use Rattle.session.specs.Choices.{have_bid, sign_for};
+ghost use Rattle.places.specs.Places.{bid_at, bid_max, proposal_size_at, proposal_len};
 ghost use Rattle.phase.specs.Phase.{block_limit};
-ghost use Rattle.layout.specs.Layout.{le4_at, entry_at, proposal_in};
+ghost use Rattle.layout.specs.Layout.{le4_at, field_in, entry_at, proposal_in};
 ghost use Rattle.session_memory.specs.State.{held, five_of};
 ghost use Rattle.numbers.specs.Whole.{Arrays, with_block, await_of, keep_with};
 ghost use Rattle.entries.specs.Decoded.{heads_of};
@@ -17,7 +19,7 @@ ghost use Rattle.our_answer.specs.Promises.{block_proposals, promised_in, Promis
 
 use bid::{has_bid, same_bid};
 use entries::{inbox_places, known_bids, records};
-use five::{add, none};
+use five::{add, in_use, none};
 use layout::entry;
 use number_read::number4;
 use numbers::Numbers;
@@ -26,7 +28,7 @@ use session_memory::Five;
 // 01, "Fields": the longest body.
 const BODY_MAX: usize = places::BODY_MAX as usize;
 
-// What is promised in this block so far: the places of the proposals accepted, and the sum of their sizes.
+/// What is promised in this block so far: the places of the proposals accepted, and the sum of their sizes.
 #[derive(Clone, Copy)]
 pub struct Promised {
     pub places: Five,
@@ -35,26 +37,12 @@ pub struct Promised {
 
 // One of the proposals at these places of the block has this BID.
 fn promised_bid(block: &[u8], places: Five, bid: &[u8]) -> bool
-    requires { (Filled places) × (places.count ≤ block_limit) }
-    ensures { result ≡ among bid.now (proposal_bids (block_proposals block.now (held places))) }
+    ensures { result ≡ list_any (λ i. same_bid (field_in bid_max bid_at (entry_at proposal_len block.now i)) bid.now) (held places) }
 {
-    let n = places.count as usize;
-    let mut j = 0usize;
-    while j < n {
-        let i = places.items[j];
-        if same_bid(
-            layout::field(
-                entry(places::PROPOSAL, block, i as u16),
-                places::BID,
-                places::BID_MAX,
-            ),
-            bid,
-        ) {
-            return true;
-        }
-        j += 1;
-    }
-    false
+    in_use(&places).iter().any(|i| {
+        let proposal = entry(places::PROPOSAL, block, *i as u16);
+        same_bid(layout::field(proposal, places::BID, places::BID_MAX), bid)
+    })
 }
 
 // The BID is in the table, the known list, the inbox, or accepted earlier in this block.
@@ -67,25 +55,17 @@ fn have_bid(
     block: &[u8],
     places: Five,
 ) -> bool
-    requires { (Filled places) × (places.count ≤ block_limit) }
     ensures { result ≡ have_bid (shelf_with_free table.now known.now inbox.now 0) (heads_of inbox.now kept) (block_proposals block.now (held places)) bid.now }
 {
-    if has_bid(
+    has_bid(
         places::RECORD,
         table,
         records(table),
         places::RECORD_BID,
         bid,
-    ) {
-        return true;
-    }
-    if has_bid(places::KNOWN, known, known_bids(known), 0, bid) {
-        return true;
-    }
-    if has_bid(places::ENTRY, inbox, kept as u16, places::BID, bid) {
-        return true;
-    }
-    promised_bid(block, places, bid)
+    ) || has_bid(places::KNOWN, known, known_bids(known), 0, bid)
+        || has_bid(places::ENTRY, inbox, kept as u16, places::BID, bid)
+        || promised_bid(block, places, bid)
 }
 
 // A message of this size has no room beside those kept and promised; free: the store's bytes less those kept.
@@ -93,16 +73,7 @@ fn no_room(size: usize, free: usize, places: usize, kept: u8, p: Promised) -> bo
     requires { p.bytes ≤ free }
     ensures { result ≡ no_room_by size free places kept p }
 {
-    if BODY_MAX < size {
-        return true;
-    }
-    if free - p.bytes < size {
-        return true;
-    }
-    if (kept as usize) + (p.places.count as usize) < places {
-        return false;
-    }
-    true
+    BODY_MAX < size || free - p.bytes < size || places <= kept as usize + p.places.count as usize
 }
 
 // The sign for the proposal at a place of the block.
@@ -129,13 +100,11 @@ fn sign_for(
         kept,
         p,
     );
-    if have {
-        return b'-';
+    match (have, full) {
+        (true, _) => b'-',
+        (false, true) => b'=',
+        (false, false) => b'+',
     }
-    if full {
-        return b'=';
-    }
-    b'+'
 }
 
 // What is promised with the proposal at a place of the block.
@@ -147,24 +116,13 @@ fn promise(p: Promised, block: &[u8], i: u16) -> Promised
         entry(places::PROPOSAL, block, i),
         places::PROPOSAL_SIZE as u16,
     );
-    let places = add(p.places, i as u8);
     Promised {
-        places: places,
+        places: add(p.places, i as u8),
         bytes: p.bytes + size,
     }
 }
 
-// a less b; 0 where b is more.
-fn less(a: usize, b: usize) -> usize
-    ensures { result ≡ a - b }
-{
-    if b < a {
-        return a - b;
-    }
-    0
-}
-
-// The answers to the proposals of the block.
+/// The answers to the proposals of the block; store: how many bytes the inbox store has.
 pub fn answers(
     s: Numbers,
     block: &[u8],
@@ -175,24 +133,21 @@ pub fn answers(
 ) -> Five
     ensures { (a : Arrays) → result ≡ answers_of (await_of s.now (with_block block.now a)) (keep_with s.keep a) table.now known.now inbox.now store }
 {
-    let n = part::at_most(phase::BLOCK_LIMIT as usize, s.now.proposals as usize);
+    let n = phase::BLOCK_LIMIT.min(s.now.proposals) as u16;
     let kept = s.keep.kept;
-    let free = less(store, s.keep.used);
+    let free = store.saturating_sub(s.keep.used);
     let mut signs = none();
     let mut p = Promised {
         places: none(),
         bytes: 0,
     };
-    let mut i = 0u16;
-    while (i as usize) < n {
+    for i in 0..n {
         let sign = sign_for(block, i, p, table, known, inbox, kept, free);
         signs = add(signs, sign);
         if sign != b'+' {
-            i += 1;
             continue;
         }
         p = promise(p, block, i);
-        i += 1;
     }
     signs
 }

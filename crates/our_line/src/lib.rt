@@ -1,17 +1,17 @@
-// Our lines, each with its CR, resumed at any byte with any room: the text at the cursor, what of it isn't passed over and fits.
+// Our lines, each with its CR, resumed at any byte with any room: what of the text isn't passed over and fits.
 #![tactic(auto)]
 
 ghost use Rattle.std.specs.Prelude.{◌≡◌, [], ◌∷◌, ◌++◌};
 ghost use Rattle.grammar.specs.Bytes.{CR};
 ghost use Rattle.grammar.specs.Fields.{form_is, decimal};
 ghost use Rattle.grammar.specs.Turns.{fixed_text, proposal_line, with_cr, form_letter};
-ghost use Rattle.buffer.specs.Put.{Puts};
+ghost use Rattle.buffer.specs.Put.{Takes};
 ghost use Rattle.our_line.specs.Lines.{fixed_is, proposal_of_fields, fs_text};
 
-use buffer::Cursor;
+use buffer::Writer;
 use decimal::digits;
 
-// The lines that never differ: our SID, the prompt, `FF`, `FQ`, `F>`, which ends a block, and the two that say why we hang up.
+/// The lines that never differ: our SID, the prompt, `FF`, `FQ`, `F>`, which ends a block, and the two that say why we hang up.
 #[derive(Drop)]
 pub enum FixedKind {
     Sid,
@@ -23,48 +23,42 @@ pub enum FixedKind {
     ChecksumError,
 }
 
-// One of the lines that never differ.
-pub fn write_fixed(which: FixedKind, buf: &mut [u8], c: Cursor) -> Cursor
-    ensures { Puts buf.old c (with_cr (fixed_text (fixed_is which))) result buf.new }
+/// One of the lines that never differ.
+pub fn write_fixed(w: &mut Writer, which: FixedKind)
+    ensures { Takes w.old (with_cr (fixed_text (fixed_is which))) w.new }
 {
     match which {
-        FixedKind::Sid => buffer::put(buf, c, b"[NOD-1-B1FH$]\r"),
-        FixedKind::Prompt => buffer::put(buf, c, b">\r"),
-        FixedKind::FF => buffer::put(buf, c, b"FF\r"),
-        FixedKind::FQ => buffer::put(buf, c, b"FQ\r"),
-        FixedKind::End => buffer::put(buf, c, b"F>\r"),
-        FixedKind::ProtocolError => buffer::put(buf, c, b"*** Protocol error\r"),
-        FixedKind::ChecksumError => buffer::put(buf, c, b"*** Checksum error\r"),
+        FixedKind::Sid => w.put(b"[NOD-1-B1FH$]\r"),
+        FixedKind::Prompt => w.put(b">\r"),
+        FixedKind::FF => w.put(b"FF\r"),
+        FixedKind::FQ => w.put(b"FQ\r"),
+        FixedKind::End => w.put(b"F>\r"),
+        FixedKind::ProtocolError => w.put(b"*** Protocol error\r"),
+        FixedKind::ChecksumError => w.put(b"*** Checksum error\r"),
     }
 }
 
-// The form of a packed message.
-const FORM_MESSAGE: u8 = phase::FORM_MESSAGE;
-
 // The size, which ends the line.
-fn put_size(buf: &mut [u8], c: Cursor, size: u32) -> Cursor
-    ensures { Puts buf.old c (decimal size ++ (CR ∷ [])) result buf.new }
+fn put_size(w: &mut Writer, size: u32)
+    ensures { Takes w.old (decimal size ++ (CR ∷ [])) w.new }
 {
     let d = digits(size);
-    let bytes = d.bytes;
-    let start = d.start;
-    buffer::put_line(buf, c, &bytes[start..])
+    w.put_line(d.as_bytes());
 }
 
 // The second letter of a proposal: A for a packed message, else B.
 fn letter(form: u8) -> u8
     ensures { result ≡ form_letter (form_is form) }
 {
-    if form == FORM_MESSAGE {
+    if form == phase::FORM_MESSAGE {
         return b'A';
     }
     b'B'
 }
 
-// A proposal with these fields as they are, none judged; its form is 1 for a packed message, 2 for a packed file, else plain.
+/// A proposal with these fields as they are, none judged; its form is 1 for a packed message, 2 for a packed file, else plain.
 pub fn write_proposal(
-    buf: &mut [u8],
-    c: Cursor,
+    w: &mut Writer,
     form: u8,
     kind: u8,
     from: &[u8],
@@ -72,22 +66,21 @@ pub fn write_proposal(
     to: &[u8],
     bid: &[u8],
     size: u32,
-) -> Cursor
-    ensures { Puts buf.old c (with_cr (proposal_line (proposal_of_fields form kind from.now at.now to.now bid.now size))) result buf.new }
+)
+    ensures { Takes w.old (with_cr (proposal_line (proposal_of_fields form kind from.now at.now to.now bid.now size))) w.new }
 {
-    let start = [b'F', letter(form), b' ', kind, b' '];
-    let c1 = buffer::put(buf, c, &start);
-    let c2 = buffer::put_word(buf, c1, from);
-    let c3 = buffer::put_word(buf, c2, at);
-    let c4 = buffer::put_word(buf, c3, to);
-    let c5 = buffer::put_word(buf, c4, bid);
-    put_size(buf, c5, size)
+    w.put(&[b'F', letter(form), b' ', kind, b' ']);
+    w.put_word(from);
+    w.put_word(at);
+    w.put_word(to);
+    w.put_word(bid);
+    put_size(w, size);
 }
 
-// The line that answers a block: the sign bytes as they are, none judged.
-pub fn write_fs(buf: &mut [u8], c: Cursor, signs: &[u8]) -> Cursor
-    ensures { Puts buf.old c (fs_text signs.now) result buf.new }
+/// The line that answers a block: the sign bytes as they are, none judged.
+pub fn write_fs(w: &mut Writer, signs: &[u8])
+    ensures { Takes w.old (fs_text signs.now) w.new }
 {
-    let d = buffer::put(buf, c, b"FS ");
-    buffer::put_line(buf, d, signs)
+    w.put(b"FS ");
+    w.put_line(signs);
 }

@@ -13,8 +13,8 @@ use five::{add, none};
 use layout::{byte_at, entry, state_for};
 use next_awaited::to_turn;
 use number_read::number4;
-use numbers::{AwaitNumbers, Numbers};
-use session_memory::{Five, Say};
+use numbers::Numbers;
+use session_memory::Five;
 
 // "the announced sizes so far are below 10,240"
 const SIZES_MAX: usize = 10240;
@@ -23,88 +23,59 @@ const SIZES_MAX: usize = 10240;
 fn in_mode(framed: bool, form: u8) -> bool
     ensures { result ≡ in_mode framed (form_is form) }
 {
-    if form == record_text::FORM_MESSAGE {
-        return framed;
+    match form {
+        record_text::FORM_MESSAGE | record_text::FORM_FILE => framed,
+        _ => !framed,
     }
-    if form == record_text::FORM_FILE {
-        return framed;
-    }
-    !framed
 }
 
 // The record in these bytes waits for the partner, is of the mode's form and was not deferred.
 fn wanted(partner: u8, framed: bool, bytes: &[u8], flag: u8) -> bool
     ensures { result ≡ wanted framed (record_of [] [] [] bytes.now) (state_for partner bytes.now) flag }
 {
-    if !in_mode(framed, byte_at(bytes, places::RECORD_FORM as usize)) {
-        return false;
-    }
-    if state_for(partner, bytes) != phase::STATE_WAITING {
-        return false;
-    }
-    flag == phase::NOT_DEFERRED
+    in_mode(framed, byte_at(bytes, places::RECORD_FORM as usize))
+        && state_for(partner, bytes) == phase::STATE_WAITING
+        && flag == phase::NOT_DEFERRED
 }
 
 // The places of the records that we propose to this partner now.
 pub fn choose(partner: u8, table: &[u8], framed: bool, deferred: &[u8]) -> Five
     ensures { result ≡ choose_of partner table.now framed deferred.now }
 {
-    let n = entries::records(table);
     let mut chosen = none();
     let mut total = 0usize;
-    let mut i = 0u16;
-    while i < n {
+    for i in 0..entries::records(table) {
         let bytes = entry(places::RECORD, table, i);
-        let at = i as usize;
-        if !wanted(partner, framed, bytes, byte_at(deferred, at)) {
-            i += 1;
+        if !wanted(partner, framed, bytes, byte_at(deferred, i as usize)) {
             continue;
         }
-        let sum = total + number4(bytes, places::RECORD_SIZE_FIELD as u16);
-        if phase::BLOCK_LIMIT <= chosen.count {
-            return chosen;
-        }
-        if SIZES_MAX <= total {
+        if phase::BLOCK_LIMIT <= chosen.count || SIZES_MAX <= total {
             return chosen;
         }
         chosen = add(chosen, i as u8);
-        total = sum;
-        i += 1;
+        total += number4(bytes, places::RECORD_SIZE_FIELD as u16);
     }
     chosen
 }
 
-// The numbers with this awaited and this said.
-fn with_turn(s: Numbers, awaited: AwaitNumbers, say: Say) -> Numbers
-    ensures { result ≡ record { now = awaited; say = say; keep = s.keep; reader = s.reader; line = s.line; tally = s.tally } }
-{
-    let mut t = s;
-    t.now = awaited;
-    t.say = say;
-    t
-}
-
 // Our turn, if it is: what we propose, or FF, or FQ where the partner's turn just now was FF. speaks: which turn it is, phase::OUR_TURN and so on.
-pub fn speak(s: Numbers, deferred: &[u8], table: &[u8], speaks: u8) -> Numbers
-    ensures { (a : Arrays) → session_of result (with_deferred deferred.now a) ≡ speak_of speaks (session_of s (with_deferred deferred.now a)) table.now }
+// A number, not a Turn: docs name this function, and it answers for every number.
+pub fn speak(s: &mut Numbers, deferred: &[u8], table: &[u8], speaks: u8)
+    ensures { (a : Arrays) → session_of s.new (with_deferred deferred.now a) ≡ speak_of speaks (session_of s.old (with_deferred deferred.now a)) table.now }
 {
     if speaks == phase::NOT_OUR_TURN {
-        return s;
+        return;
     }
     let chosen = choose(s.keep.terms.partner, table, s.keep.framed, deferred);
-    let mut awaited = s.now;
-    let mut say = s.say;
-    if chosen.count == 0 {
-        if speaks == phase::OUR_TURN_AFTER_FF {
-            awaited.phase = phase::LEAVING;
-            say.then = phase::PIECE_FQ;
-            return with_turn(s, awaited, say);
-        }
-        say.then = phase::PIECE_FF;
-        return with_turn(s, to_turn(awaited, true), say);
+    if chosen.count != 0 {
+        s.now.phase = phase::FS;
+        s.now.ours = chosen;
+        s.say.then = phase::PIECE_BLOCK;
+    } else if speaks == phase::OUR_TURN_AFTER_FF {
+        s.now.phase = phase::LEAVING;
+        s.say.then = phase::PIECE_FQ;
+    } else {
+        to_turn(&mut s.now, true);
+        s.say.then = phase::PIECE_FF;
     }
-    awaited.phase = phase::FS;
-    awaited.ours = chosen;
-    say.then = phase::PIECE_BLOCK;
-    with_turn(s, awaited, say)
 }

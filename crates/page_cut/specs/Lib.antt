@@ -1,2 +1,3 @@
--- What the pieces of this crate are.
+-- What the pieces of this crate are, and the numbers of its reasons.
 pub mod Pieces
+pub mod Why

@@ -1,4 +1,4 @@
-// A line of the white pages: what it is, its fields by their places in the line.
+//! A line of the white pages: what it is, its fields by their places in the line.
 #![tactic(auto)]
 
 ghost use Rattle.std.specs.Prelude.{◌≡◌, true, ◌+◌, ◌≤◌, length, drop, get_or};
@@ -6,10 +6,11 @@ ghost use Rattle.pages.specs.Pages.{is_hex, leads, has_flag, flag_length, versio
 ghost use Rattle.pages.specs.Fields.{member_of};
 ghost use Rattle.page_line.specs.Meaning.{PageIs};
 
-use byte::{Hex, hex_digit};
-use page_member::{Member, ReadMember, read_member};
+use byte::hex_digit;
+use page_cut::Dropped;
+use page_member::{Member, read_member};
 use route_scan::byte_at;
-use size::{Size, read_size};
+use size::read_size;
 use span::find_from;
 
 // Two hexadecimal digits and a space stand before the flag.
@@ -30,41 +31,27 @@ const VERSION_DIGITS: usize = 2;
 
 const VERSION_END: usize = DATA_PLACE + VERSION_DIGITS;
 
-// Why a line is dropped: the numbers of include/fringemole_pages.h.
-const NO_RECORD: u8 = 1;
-
-const BAD_VERSION: u8 = 2;
-
-// What a line is; a version by the number of its two digits.
+// Stays: kinds of lines, no Option; a dropped line is an `Err`.
+/// What a line is; a version by the number of its two digits.
 #[derive(Clone, Copy)]
 pub enum Page {
     Version(u32),
     Member(Member),
     Skipped,
-    Dropped(u8),
 }
 
 // A hexadecimal digit.
 fn is_hex(b: u8) -> bool
     ensures { result ≡ is_hex b }
 {
-    match hex_digit(b) {
-        Hex::Value(_) => true,
-        Hex::Other => false,
-    }
+    hex_digit(b).is_some()
 }
 
 // Two hexadecimal digits and a space.
 fn leads_on(line: &[u8]) -> bool
     ensures { result ≡ leads line.now }
 {
-    if !is_hex(byte_at(line, 0)) {
-        return false;
-    }
-    if !is_hex(byte_at(line, 1)) {
-        return false;
-    }
-    byte_at(line, LEAD_DIGITS) == b' '
+    is_hex(byte_at(line, 0)) && is_hex(byte_at(line, 1)) && byte_at(line, LEAD_DIGITS) == b' '
 }
 
 // A flag from its place up to end, and a space behind it.
@@ -72,68 +59,57 @@ fn is_flag(line: &[u8], end: usize) -> bool
     requires { end ≡ flag_place + flag_length line.now }
     ensures { result ≡ has_flag line.now }
 {
-    if end <= FLAG_PLACE {
-        return false;
-    }
-    if FLAG_END < end {
-        return false;
-    }
-    end < line.len()
+    FLAG_PLACE < end && end <= FLAG_END && end < line.len()
 }
 
 // The data of V: two decimal digits.
-fn read_version(line: &[u8]) -> Page
+#[tactic(auto, unfolding(pages::specs::Pages::version_of))]
+fn read_version(line: &[u8]) -> Result<Page, Dropped>
     requires { data_after_flag ≤ length line.now }
     ensures { PageIs line.now result (version_of (drop data_after_flag line.now)) }
 {
     if line.len() != VERSION_END {
-        return Page::Dropped(BAD_VERSION);
+        return Err(Dropped::BadVersion);
     }
-    match read_size(&line[DATA_PLACE..VERSION_END]) {
-        Size::Bad => Page::Dropped(BAD_VERSION),
-        Size::Value(n) => Page::Version(n),
-    }
+    let n = read_size(&line[DATA_PLACE..VERSION_END]).ok_or(Dropped::BadVersion)?;
+    Ok(Page::Version(n))
 }
 
 // The data of M.
-fn member_page(line: &[u8]) -> Page
+fn member_page(line: &[u8]) -> Result<Page, Dropped>
     requires { data_after_flag ≤ length line.now }
     ensures { PageIs line.now result (member_by (member_of (drop data_after_flag line.now))) }
 {
-    match read_member(line, DATA_PLACE) {
-        ReadMember::Breaks(why) => Page::Dropped(why),
-        ReadMember::Says(m) => Page::Member(m),
-    }
+    Ok(Page::Member(read_member(line, DATA_PLACE)?))
 }
 
 // A record with a flag of one byte.
-fn by_letter(line: &[u8]) -> Page
+#[tactic(auto, unfolding(pages::specs::Pages::by_letter))]
+fn by_letter(line: &[u8]) -> Result<Page, Dropped>
     requires { data_after_flag ≤ length line.now }
     ensures { PageIs line.now result (by_letter (get_or line.now flag_place 0) (drop data_after_flag line.now)) }
 {
-    let flag = line[FLAG_PLACE];
-    if flag == b'V' {
-        return read_version(line);
+    match line[FLAG_PLACE] {
+        b'V' => read_version(line),
+        b'M' => member_page(line),
+        _ => Ok(Page::Skipped),
     }
-    if flag == b'M' {
-        return member_page(line);
-    }
-    Page::Skipped
 }
 
-// What a line is.
-pub fn read_page(line: &[u8]) -> Page
+/// What a line is, or why it is dropped.
+#[tactic(auto, unfolding(pages::specs::Pages::read_page))]
+pub fn read_page(line: &[u8]) -> Result<Page, Dropped>
     ensures { PageIs line.now result (read_page line.now) }
 {
     if !leads_on(line) {
-        return Page::Dropped(NO_RECORD);
+        return Err(Dropped::NoRecord);
     }
     let end = find_from(line, FLAG_PLACE, b' ');
     if !is_flag(line, end) {
-        return Page::Dropped(NO_RECORD);
+        return Err(Dropped::NoRecord);
     }
     if end != FLAG_PLACE + 1 {
-        return Page::Skipped;
+        return Ok(Page::Skipped);
     }
     by_letter(line)
 }

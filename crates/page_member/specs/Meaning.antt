@@ -1,30 +1,14 @@
 -- What an answer says of its line, and that its places lie in the line, in order.
-use Rattle.std.specs.Prelude.{◌≡◌, ℕ, length, drop}
+use Rattle.std.specs.Prelude.{◌≡◌, ℕ, length, drop, Result, Ok, Err}
 use Rattle.grammar.specs.Bytes.{Bytes}
 use Rattle.span.specs.Places.{part}
 use Rattle.pages.specs.Fields as pages
+use Rattle.page_cut.specs.Why.{read_said}
+use Rattle.page_cut.specs.declared.Dropped.{Dropped}
 use Rattle.page_words.specs.Meaning.{LiesBetween}
-use Rattle.page_words.specs.declared.Who.{Who}
-use Rattle.page_words.specs.declared.When.{When}
-use Rattle.page_whence.specs.declared.Whence.{Whence}
 use Rattle.page_member.specs.declared.Member.{Member}
-use Rattle.page_member.specs.declared.ReadMember.{ReadMember}
 
--- The nine fields of three readings.
-abbrev pub nine_of : Who → When → Whence → Member
-nine_of a b c =
-    record {
-      call = a.call;
-      home = a.home;
-      bid = a.bid;
-      stamp = b.stamp;
-      origin = b.origin;
-      hops = b.hops;
-      name = c.name;
-      zip = c.zip;
-      town = c.town;
-    }
-
+-- The nine fields of a line.
 abbrev pub member_in : Bytes → Member → pages.Member
 member_in l m =
     record {
@@ -39,10 +23,6 @@ member_in l m =
       town = part l m.town;
     }
 
-abbrev pub member_said : Bytes → ReadMember → pages.Read pages.Member
-member_said l (ReadMember.Says m) = pages.says (member_in l m)
-member_said l (ReadMember.Breaks n) = pages.breaks n
-
 abbrev pub FieldsLie : Bytes → ℕ → Member → Type 0
 FieldsLie l at m =
     LiesBetween at m.call m.home.start
@@ -53,9 +33,9 @@ FieldsLie l at m =
     × LiesBetween at m.zip m.town.start
     × LiesBetween at m.town (length l)
 
-abbrev pub MemberLies : Bytes → ℕ → ReadMember → Type 0
-MemberLies l at (ReadMember.Breaks n) = Unit {0}
-MemberLies l at (ReadMember.Says m) = FieldsLie l at m
+abbrev pub MemberLies : Bytes → ℕ → Result Member Dropped → Type 0
+MemberLies l at (Err why) = Unit {0}
+MemberLies l at (Ok m) = FieldsLie l at m
 
-abbrev pub MemberIs : Bytes → ℕ → ReadMember → Type 0
-MemberIs l at r = (member_said l r ≡ pages.member_of (drop at l)) × MemberLies l at r
+abbrev pub MemberIs : Bytes → ℕ → Result Member Dropped → Type 0
+MemberIs l at r = (read_said (member_in l) r ≡ pages.member_of (drop at l)) × MemberLies l at r

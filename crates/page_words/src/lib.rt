@@ -1,28 +1,14 @@
-// The first six fields of a member, words with one space between: call, home mailbox and BID; time stamp, origin and hops.
+//! The first six fields of a member, words with one space between: call, home mailbox and BID; time stamp, origin and hops.
 #![tactic(auto)]
 
 ghost use Rattle.std.specs.Prelude.{◌≡◌, ◌≤◌, length};
-ghost use Rattle.page_words.specs.Meaning.{WhoIs, StampIs, WhenIs};
+ghost use Rattle.page_words.specs.Meaning.{WordIs, WordBy, WhoIs, WhenIs};
 
-use long_number::Long;
-use page_cut::{bid_in, call_in, long_in, mailbox_in, word_at};
+use page_cut::{Dropped, Piece, Rule, long_in, obeys, word_at};
 use span::Span;
 
-// Why a line is dropped: the numbers of include/fringemole_pages.h.
-const BAD_CALL: u8 = 3;
-
-const BAD_HOME: u8 = 4;
-
-const BAD_BID: u8 = 5;
-
-const BAD_STAMP: u8 = 6;
-
-const BAD_ORIGIN: u8 = 7;
-
-const BAD_HOPS: u8 = 8;
-
-// Call, home mailbox and BID, and the place where what follows begins.
-#[derive(Drop)]
+/// Call, home mailbox and BID, and the place where what follows begins.
+#[derive(Clone, Copy)]
 pub struct Who {
     pub call: Span,
     pub home: Span,
@@ -30,15 +16,8 @@ pub struct Who {
     pub next: usize,
 }
 
-// What was read, or why it was not.
-#[derive(Drop)]
-pub enum ReadWho {
-    Says(Who),
-    Breaks(u8),
-}
-
-// Time stamp, origin and hops, and the place where what follows begins.
-#[derive(Drop)]
+/// Time stamp, origin and hops, and the place where what follows begins.
+#[derive(Clone, Copy)]
 pub struct When {
     pub stamp: u64,
     pub origin: Span,
@@ -46,71 +25,61 @@ pub struct When {
     pub next: usize,
 }
 
-// What was read, or why it was not.
-#[derive(Drop)]
-pub enum ReadWhen {
-    Says(When),
-    Breaks(u8),
+// The word at a place of the line, said by this crate's definitions.
+fn word_in(line: &[u8], at: usize) -> Piece
+    requires { at ≤ length line.now }
+    ensures { WordIs line.now at result }
+{
+    word_at(line, at)
 }
 
-// Call, home mailbox and BID at a place.
-pub fn read_who(line: &[u8], at: usize) -> ReadWho
+// The word at a place, if it obeys the rule.
+fn word_by(line: &[u8], at: usize, rule: Rule) -> Option<Piece>
+    requires { at ≤ length line.now }
+    ensures { WordBy line.now at rule result }
+{
+    let word = word_in(line, at);
+    if obeys(line, word.span, rule) {
+        Some(word)
+    } else {
+        None
+    }
+}
+
+// Stays: a line and a place in it as two parameters, since `page_whence::read_whence` and `page_member::read_member`, which docs/CONFORMANCE.md
+// names, may ask no more of callers than `at ≤ length line`.
+/// Call, home mailbox and BID at a place.
+#[tactic(auto, unfolding(pages::specs::Fields::who_of))]
+pub fn read_who(line: &[u8], at: usize) -> Result<Who, Dropped>
     requires { at ≤ length line.now }
     ensures { WhoIs line.now at result }
 {
-    let first = word_at(line, at);
-    let call = first.span;
-    if !call_in(line, call) {
-        return ReadWho::Breaks(BAD_CALL);
-    }
-    let second = word_at(line, first.next);
-    let home = second.span;
-    if !mailbox_in(line, home) {
-        return ReadWho::Breaks(BAD_HOME);
-    }
-    let third = word_at(line, second.next);
-    let bid = third.span;
-    if !bid_in(line, bid) {
-        return ReadWho::Breaks(BAD_BID);
-    }
-    ReadWho::Says(Who {
-        call: call,
-        home: home,
-        bid: bid,
-        next: third.next,
+    let call = word_by(line, at, Rule::Call).ok_or(Dropped::BadCall)?;
+    let home = word_by(line, call.next, Rule::Mailbox).ok_or(Dropped::BadHome)?;
+    let bid = word_by(line, home.next, Rule::Bid).ok_or(Dropped::BadBid)?;
+    Ok(Who {
+        call: call.span,
+        home: home.span,
+        bid: bid.span,
+        next: bid.next,
     })
 }
 
-// Origin and hops at a place, behind a time stamp.
-fn read_origin(line: &[u8], at: usize, stamp: u64) -> ReadWhen
-    requires { at ≤ length line.now }
-    ensures { StampIs line.now at stamp result }
-{
-    let first = word_at(line, at);
-    let origin = first.span;
-    if !mailbox_in(line, origin) {
-        return ReadWhen::Breaks(BAD_ORIGIN);
-    }
-    let second = word_at(line, first.next);
-    match long_in(line, second.span) {
-        Long::Bad => ReadWhen::Breaks(BAD_HOPS),
-        Long::Value(hops) => ReadWhen::Says(When {
-            stamp: stamp,
-            origin: origin,
-            hops: hops,
-            next: second.next,
-        }),
-    }
-}
-
-// Time stamp, origin and hops at a place.
-pub fn read_when(line: &[u8], at: usize) -> ReadWhen
+/// Time stamp, origin and hops at a place.
+#[tactic(auto, unfolding(pages::specs::Fields::when_of))]
+pub fn read_when(line: &[u8], at: usize) -> Result<When, Dropped>
     requires { at ≤ length line.now }
     ensures { WhenIs line.now at result }
 {
-    let first = word_at(line, at);
-    match long_in(line, first.span) {
-        Long::Bad => ReadWhen::Breaks(BAD_STAMP),
-        Long::Value(stamp) => read_origin(line, first.next, stamp),
-    }
+    let first = word_in(line, at);
+    let stamp = long_in(line, first.span).ok_or(Dropped::BadStamp)?;
+    let origin = word_by(line, first.next, Rule::Mailbox).ok_or(Dropped::BadOrigin)?;
+    let last = word_in(line, origin.next);
+    let hops = long_in(line, last.span).ok_or(Dropped::BadHops)?;
+    Ok(When {
+        stamp,
+        origin: origin.span,
+        hops,
+        next: last.next,
+    })
 }

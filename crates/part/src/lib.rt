@@ -4,16 +4,12 @@
 ghost use Rattle.std.specs.Prelude.{◌≡◌, min, length};
 ghost use Rattle.grammar.specs.Transfers.{part_of};
 
-// The len bytes from start on, or nothing where they run past the end.
+/// The `len` bytes from `start` on, or nothing where they run past the end.
 pub fn part(s: &[u8], start: usize, len: usize) -> &[u8]
     ensures { result.now ≡ part_of s.now start len }
 {
-    if start <= s.len() {
-        if len <= s.len() - start {
-            &s[start..start + len]
-        } else {
-            &s[..0]
-        }
+    if start <= s.len() && len <= s.len() - start {
+        &s[start..start + len]
     } else {
         &s[..0]
     }
@@ -23,8 +19,5 @@ pub fn part(s: &[u8], start: usize, len: usize) -> &[u8]
 pub fn at_most(most: usize, n: usize) -> usize
     ensures { result ≡ min most n }
 {
-    if most < n {
-        return most;
-    }
-    n
+    most.min(n)
 }

@@ -1,15 +1,14 @@
 -- The answers of the readers of a turn's lines.
 use Rattle.std.specs.Prelude.{◌≡◌, Bool, false, cond, ◌&&◌, List, [], ◌∷◌, map, ℕ, ◌+◌, ◌≤◌, eqb, length}
 use Rattle.std.proofs.Math.Option.{Option, none, some}
+use Rattle.std.specs.Prelude as std
 use Rattle.grammar.specs.Bytes.{Bytes, same}
 use Rattle.grammar.specs.Fields.{Form, file, form_number, form_is, upper, words, is_call, is_at, is_bid}
 use Rattle.grammar.specs.Turns as turns
-use Rattle.byte.specs.declared.Hex.{Hex}
 use Rattle.span.specs.Places.{part, Lies}
 use Rattle.proposal.specs.declared.Proposal.{Proposal}
 use Rattle.proposal.specs.declared.TurnLine.{TurnLine}
 use Rattle.proposal.specs.declared.Seven.{Seven}
-use Rattle.proposal.specs.declared.Split.{Split}
 
 -- ---------------------------------------------------------------- what a caller gets
 
@@ -18,10 +17,15 @@ abbrev pub proposal_is : Bytes → Proposal → turns.Proposal
 proposal_is l p =
     record { form = form_is p.form; type = p.kind; from = part l p.from; at = part l p.at; to = part l p.to; bid = part l p.bid; size = p.size }
 
+-- A proposal that is read, or none.
+abbrev pub proposal_said : Bytes → std.Option Proposal → Option turns.Proposal
+proposal_said l (std.Some p) = some (proposal_is l p)
+proposal_said l std.None = none
+
 -- F> with a checksum, or with none.
-abbrev pub end_is : Hex → turns.TurnLine
-end_is (Hex.Value h) = turns.ends_summed h
-end_is Hex.Other = turns.ends_block
+abbrev pub end_is : std.Option ℕ → turns.TurnLine
+end_is (std.Some h) = turns.ends_summed h
+end_is std.None = turns.ends_block
 
 -- What each answer says in the words of the grammar, whose `turn_line_number` gives 01's number.
 abbrev pub turn_line_is : Bytes → TurnLine → turns.TurnLine
@@ -64,16 +68,10 @@ end_length = 3
 abbrev pub summed_length : ℕ
 summed_length = end_length + 2
 
--- The form that form_of answers; this says that there is none.
-abbrev pub no_form : ℕ
-no_form = 3
-
-abbrev pub form_by : ℕ → Option Form
-form_by n = cond (eqb n no_form) none (some (form_is n))
-
--- The type that type_of answers; 0 says that there is none.
-abbrev pub type_by : ℕ → Option ℕ
-type_by n = cond (eqb n 0) none (some n)
+-- The form that form_of answers.
+abbrev pub form_by : std.Option ℕ → Option Form
+form_by (std.Some n) = some (form_is n)
+form_by std.None = none
 
 -- The seven fields lie in the line.
 pub record SevenLie (l : Bytes) (w : Seven) : Type 0 where
@@ -91,9 +89,9 @@ words_of l w =
     part l w.letters ∷ part l w.kind ∷ part l w.from ∷ part l w.at ∷ part l w.to ∷ part l w.bid ∷ part l w.size ∷ []
 
 -- The words of the line are these seven, or they are not seven.
-abbrev pub SplitIs : Bytes → Split → Type 0
-SplitIs l (Split.Words w) = (words l ≡ words_of l w) × SevenLie l w
-SplitIs l Split.NotSeven = eqb (length (words l)) field_count ≡ false
+abbrev pub SplitIs : Bytes → std.Option Seven → Type 0
+SplitIs l (std.Some w) = (words l ≡ words_of l w) × SevenLie l w
+SplitIs l std.None = eqb (length (words l)) field_count ≡ false
 
 -- From, at, to and BID obey their rules.
 abbrev pub fields_hold : Bytes → Seven → Bool

@@ -1,19 +1,19 @@
-// The lines of a turn: FF, FQ, F> with or without a checksum, and proposals, whose fields are shown where they lie in the line.
+//! The lines of a turn: FF, FQ, F> with or without a checksum, and proposals, whose fields are shown where they lie in the line.
 #![tactic(auto)]
 
-ghost use Rattle.std.specs.Prelude.{◌≡◌, map, ◌≤◌};
-ghost use Rattle.grammar.specs.Fields.{upper};
-ghost use Rattle.grammar.specs.Turns.{form_said, type_of, or_not_allowed, read_proposal, read_summed_end, read_turn_line};
-ghost use Rattle.byte.specs.Hex.{hex_is};
-ghost use Rattle.proposal.specs.Meaning.{is_word, turn_line_is, LiesIn, form_by, type_by, SplitIs, SevenLie, fields_hold, seven_by, no_form};
+ghost use Rattle.std.specs.Prelude.{◌≡◌, map, ◌≤◌, IfSome};
+ghost use Rattle.grammar.specs.Fields.{upper, form_number, file};
+ghost use Rattle.grammar.specs.Turns.{form_said, type_of, read_proposal, read_summed_end, read_turn_line};
+ghost use Rattle.byte.specs.Said.{said};
+ghost use Rattle.proposal.specs.Meaning.{is_word, turn_line_is, LiesIn, ProposalLies, proposal_said, form_by, SplitIs, SevenLie, fields_hold, seven_by};
 
-use byte::{Hex, hex_pair, upper_of};
+use byte::{hex_pair, upper_of};
 use field::{is_at, is_bid, is_call};
 use field_reader::field_by_reader;
-use size::{Size, read_size};
+use size::read_size;
 use span::Span;
 
-// A proposal as read: its form by 01's number, its type as the capital P or B, and its fields where they lie in the line.
+/// A proposal as read: its form by 01's number, its type as the capital P or B, and its fields where they lie in the line.
 #[derive(Clone, Copy)]
 pub struct Proposal {
     pub form: u8,
@@ -25,12 +25,12 @@ pub struct Proposal {
     pub size: u32,
 }
 
-// What a line says in a turn; End is F> with the block's checksum, or with none.
+/// What a line says in a turn; End is F> with the block's checksum, or with none.
 #[derive(Clone, Copy)]
 pub enum TurnLine {
     FF,
     FQ,
-    End(Hex),
+    End(Option<u8>),
     NotAllowed,
     Proposed(Proposal),
 }
@@ -46,25 +46,6 @@ struct Seven {
     bid: Span,
     size: Span,
 }
-
-// A line by its words: seven of them, or not seven.
-#[derive(Drop)]
-enum Split {
-    Words(Seven),
-    NotSeven,
-}
-
-// The forms by 01's numbers.
-const FORM_PLAIN: u8 = phase::FORM_PLAIN;
-
-const FORM_MESSAGE: u8 = phase::FORM_MESSAGE;
-
-const FORM_FILE: u8 = phase::FORM_FILE;
-
-// What form_of and type_of answer where there is none.
-const NO_FORM: u8 = 3;
-
-const NO_TYPE: u8 = 0;
 
 // The fields of a proposal.
 const FIELD_COUNT: usize = 7;
@@ -84,83 +65,71 @@ fn is_word(s: &[u8], word: &[u8]) -> bool
     if s.len() != word.len() {
         return false;
     }
-    let mut i = 0;
-    while i < s.len() {
+    for i in 0..s.len() {
         if upper_of(s[i]) != word[i] {
             return false;
         }
-        i += 1;
     }
     true
 }
 
-// The form that the letters of a proposal stand for in this mode.
-fn form_of(framed: bool, w: &[u8]) -> u8
-    ensures { (form_by result ≡ form_said framed (map upper w.now)) × (result ≤ no_form) }
+// The form that the letters of a proposal stand for in this mode, by 01's number.
+fn form_of(framed: bool, w: &[u8]) -> Option<u8>
+    ensures form { form_by result ≡ form_said framed (map upper w.now) }
+    ensures known { IfSome result (λ n. n ≤ form_number file) }
 {
-    if framed {
-        if is_word(w, b"FA") {
-            return FORM_MESSAGE;
-        }
-        if is_word(w, b"FB") {
-            return FORM_FILE;
-        }
-        return NO_FORM;
+    if framed && is_word(w, b"FA") {
+        Some(phase::FORM_MESSAGE)
+    } else if is_word(w, b"FB") {
+        Some(if framed {
+            phase::FORM_FILE
+        } else {
+            phase::FORM_PLAIN
+        })
+    } else {
+        None
     }
-    if !is_word(w, b"FB") {
-        return NO_FORM;
-    }
-    FORM_PLAIN
 }
 
 // The type, P or B.
-fn type_of(w: &[u8]) -> u8
-    ensures { type_by result ≡ type_of (map upper w.now) }
+fn type_of(w: &[u8]) -> Option<u8>
+    ensures { said result ≡ type_of (map upper w.now) }
 {
     if is_word(w, b"P") {
-        return b'P';
+        Some(b'P')
+    } else if is_word(w, b"B") {
+        Some(b'B')
+    } else {
+        None
     }
-    if is_word(w, b"B") {
-        return b'B';
-    }
-    NO_TYPE
 }
 
 // The seven words of a line, where it has seven.
-fn seven_words(line: &[u8]) -> Split
+fn seven_words(line: &[u8]) -> Option<Seven>
     ensures { SplitIs line.now result }
 {
     let mut w = [Span { start: 0, end: 0 }; FIELD_COUNT];
     let mut place = 0;
-    let mut i = 0;
-    while i < FIELD_COUNT {
+    for i in 0..FIELD_COUNT {
         let s = field_by_reader(line, place);
         if s.end <= s.start {
-            return Split::NotSeven;
+            return None;
         }
         w[i] = s;
         place = s.end;
-        i += 1;
     }
     let more = field_by_reader(line, place);
     if more.start < more.end {
-        return Split::NotSeven;
+        return None;
     }
-    let letters = w[0];
-    let kind = w[1];
-    let from = w[2];
-    let at = w[3];
-    let to = w[4];
-    let bid = w[5];
-    let size = w[6];
-    Split::Words(Seven {
-        letters: letters,
-        kind: kind,
-        from: from,
-        at: at,
-        to: to,
-        bid: bid,
-        size: size,
+    Some(Seven {
+        letters: w[0],
+        kind: w[1],
+        from: w[2],
+        at: w[3],
+        to: w[4],
+        bid: w[5],
+        size: w[6],
     })
 }
 
@@ -169,98 +138,63 @@ fn fields_hold(line: &[u8], w: Seven) -> bool
     requires { SevenLie line.now w }
     ensures { result ≡ fields_hold line.now w }
 {
-    let a3 = w.from.start;
-    let e3 = w.from.end;
-    if !is_call(&line[a3..e3]) {
-        return false;
-    }
-    let a4 = w.at.start;
-    let e4 = w.at.end;
-    if !is_at(&line[a4..e4]) {
-        return false;
-    }
-    let a5 = w.to.start;
-    let e5 = w.to.end;
-    if !is_call(&line[a5..e5]) {
-        return false;
-    }
-    let a6 = w.bid.start;
-    let e6 = w.bid.end;
-    is_bid(&line[a6..e6])
+    is_call(&line[w.from.start..w.from.end])
+        && is_at(&line[w.at.start..w.at.end])
+        && is_call(&line[w.to.start..w.to.end])
+        && is_bid(&line[w.bid.start..w.bid.end])
 }
 
 // The proposal that seven words say.
-fn judged(line: &[u8], framed: bool, w: Seven) -> TurnLine
+fn judged(line: &[u8], framed: bool, w: Seven) -> Option<Proposal>
     requires { SevenLie line.now w }
-    ensures { (turn_line_is line.now result ≡ or_not_allowed (seven_by framed line.now w)) × LiesIn line.now result }
+    ensures says { proposal_said line.now result ≡ seven_by framed line.now w }
+    ensures lies { IfSome result (ProposalLies line.now) }
 {
-    let a1 = w.letters.start;
-    let e1 = w.letters.end;
-    let form = form_of(framed, &line[a1..e1]);
-    if form == NO_FORM {
-        return TurnLine::NotAllowed;
-    }
-    let a2 = w.kind.start;
-    let e2 = w.kind.end;
-    let kind = type_of(&line[a2..e2]);
-    if kind == NO_TYPE {
-        return TurnLine::NotAllowed;
-    }
+    let form = form_of(framed, &line[w.letters.start..w.letters.end])?;
+    let kind = type_of(&line[w.kind.start..w.kind.end])?;
     if !fields_hold(line, w) {
-        return TurnLine::NotAllowed;
+        return None;
     }
-    let a7 = w.size.start;
-    let e7 = w.size.end;
-    let read = read_size(&line[a7..e7]);
-    let Size::Value(size) = read else {
-        return TurnLine::NotAllowed;
-    };
-    let from = w.from;
-    let at = w.at;
-    let to = w.to;
-    let bid = w.bid;
-    TurnLine::Proposed(Proposal {
-        form: form,
-        kind: kind,
-        from: from,
-        at: at,
-        to: to,
-        bid: bid,
-        size: size,
+    let size = read_size(&line[w.size.start..w.size.end])?;
+    Some(Proposal {
+        form,
+        kind,
+        from: w.from,
+        at: w.at,
+        to: w.to,
+        bid: w.bid,
+        size,
     })
 }
 
-// A proposal, or nothing that is allowed.
-fn read_proposal(line: &[u8], framed: bool) -> TurnLine
-    ensures { (turn_line_is line.now result ≡ or_not_allowed (read_proposal framed line.now)) × LiesIn line.now result }
+// A proposal, where the line is one.
+fn read_proposal(line: &[u8], framed: bool) -> Option<Proposal>
+    ensures says { proposal_said line.now result ≡ read_proposal framed line.now }
+    ensures lies { IfSome result (ProposalLies line.now) }
 {
-    if line.len() < 1 {
-        return TurnLine::NotAllowed;
+    if line.is_empty() || line[0] == b' ' {
+        return None;
     }
-    if line[0] == b' ' {
-        return TurnLine::NotAllowed;
-    }
-    let s = seven_words(line);
-    let Split::Words(w) = s else {
-        return TurnLine::NotAllowed;
+    let Some(w) = seven_words(line) else {
+        return None;
     };
     judged(line, framed, w)
 }
 
 // "F> HH": one space, two digits and nothing more; the number that these stand for.
-fn summed_end(line: &[u8]) -> Hex
-    ensures { hex_is result ≡ read_summed_end line.now }
+fn summed_end(line: &[u8]) -> Option<u8>
+    ensures { said result ≡ read_summed_end line.now }
 {
     if line.len() != SUMMED_END {
-        return Hex::Other;
+        return None;
     }
     if !is_word(&line[..END_LENGTH], b"F> ") {
-        return Hex::Other;
+        return None;
     }
     hex_pair(line[END_LENGTH], line[SUM_LAST_DIGIT])
 }
 
-// What a line, its spaces at the end removed, says in a turn; a proposal's fields lie in the line.
+/// What a line, its spaces at the end removed, says in a turn; a proposal's fields lie in the line.
 pub fn read_turn_line(line: &[u8], framed: bool) -> TurnLine
     ensures { (turn_line_is line.now result ≡ read_turn_line framed line.now) × LiesIn line.now result }
 {
@@ -271,11 +205,13 @@ pub fn read_turn_line(line: &[u8], framed: bool) -> TurnLine
         return TurnLine::FQ;
     }
     if is_word(line, b"F>") {
-        return TurnLine::End(Hex::Other);
+        return TurnLine::End(None);
     }
-    let end = summed_end(line);
-    let Hex::Value(sum) = end else {
-        return read_proposal(line, framed);
-    };
-    TurnLine::End(Hex::Value(sum))
+    if let Some(sum) = summed_end(line) {
+        return TurnLine::End(Some(sum));
+    }
+    match read_proposal(line, framed) {
+        Some(proposal) => TurnLine::Proposed(proposal),
+        None => TurnLine::NotAllowed,
+    }
 }

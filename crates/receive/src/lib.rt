@@ -8,26 +8,38 @@ ghost use Rattle.numbers.specs.Whole.{whole_of};
 ghost use Rattle.give.specs.Giving.{reply};
 ghost use Rattle.receive_defined.specs.Receiving.{cs, run_with, receive_from, saved, receive_of};
 ghost use Rattle.byte_run.specs.Taking.{TakesBytes};
+ghost use Rattle.settling.specs.Answer.{answer_of};
 ghost use Rattle.receive.specs.Sound.{FormHolds};
 
 use give::Reply;
 use numbers::Numbers;
 use receive_step::Taken;
+use refusal::Refusal;
+
+// How bytes ended, by 01's number: the one place where receive makes a refusal the number that a host reads.
+fn number(end: Result<(), Refusal>) -> u8
+    ensures { result ≡ answer_of end }
+{
+    match end {
+        Ok(()) => refusal::NONE,
+        Err(why) => u8::from(why),
+    }
+}
 
 // What is answered.
-fn reply(answer: u8, place: u8, count: usize) -> Reply
-    ensures { result ≡ reply answer place count }
+fn reply(end: Result<(), Refusal>, place: u8, count: usize) -> Reply
+    ensures { result ≡ reply (answer_of end) place count }
 {
     Reply {
-        answer: answer,
-        place: place,
-        count: count,
+        answer: number(end),
+        place,
+        count,
     }
 }
 
 // Takes bytes portion after portion, until one is refused, the session is over or they end. mem: the state's arrays.
 fn take_bytes(
-    s: Numbers,
+    s: &mut Numbers,
     bytes: &[u8],
     mem: &mut [u8],
     table: &mut [u8],
@@ -35,41 +47,24 @@ fn take_bytes(
     inbox: &mut [u8],
     store: &mut [u8],
 ) -> Taken
-    requires { FormHolds (cs (whole_of s mem.old) table.old inbox.old store.old) × (length mem.old ≡ arrays_len) }
-    ensures { run_with result.answer result.count (cs (whole_of result.session mem.new) table.new inbox.new store.new) ≡ receive_from known.now (cs (whole_of s mem.old) table.old inbox.old store.old) 0 bytes.now }
+    requires { FormHolds (cs (whole_of s.old mem.old) table.old inbox.old store.old) × (length mem.old ≡ arrays_len) }
+    ensures { run_with (answer_of result.end) result.count (cs (whole_of s.new mem.new) table.new inbox.new store.new) ≡ receive_from known.now (cs (whole_of s.old mem.old) table.old inbox.old store.old) 0 bytes.now }
 {
-    let mut t = s;
-    let mut i = 0usize;
-    while i < bytes.len() {
-        let r = receive_step::step(t, &bytes[i..], mem, table, known, inbox, store);
-        let end = i + r.count;
-        t = r.session;
-        if r.answer != refusal::NONE {
-            return Taken {
-                answer: r.answer,
-                count: end,
-                session: t,
-            };
-        }
-        i = end;
-        if pending::is_over(t) {
-            return Taken {
-                answer: refusal::NONE,
-                count: i,
-                session: t,
-            };
+    let mut count = 0;
+    while count < bytes.len() {
+        let portion = receive_step::step(s, &bytes[count..], mem, table, known, inbox, store);
+        count += portion.count;
+        let end = portion.end;
+        if end.is_err() || pending::is_over(*s) {
+            return Taken { end, count };
         }
     }
-    Taken {
-        answer: refusal::NONE,
-        count: i,
-        session: t,
-    }
+    Taken { end: Ok(()), count }
 }
 
 // Takes bytes, with the arrays where they stand, and saves the numbers after them. s: the numbers in session memory.
 fn take_all(
-    s: Numbers,
+    s: &mut Numbers,
     bytes: &[u8],
     sm: &mut [u8],
     table: &mut [u8],
@@ -77,21 +72,13 @@ fn take_all(
     inbox: &mut [u8],
     store: &mut [u8],
 ) -> Reply
-    requires { TakesBytes s sm.old bytes.now × FormHolds (cs (load_of sm.old) table.old inbox.old store.old) }
+    requires { TakesBytes s.old sm.old bytes.now × FormHolds (cs (load_of sm.old) table.old inbox.old store.old) }
     ensures { record { reply = result; sm = sm.new; table = table.new; inbox = inbox.new; store = store.new } ≡ saved sm.old (receive_from known.now (cs (load_of sm.old) table.old inbox.old store.old) 0 bytes.now) }
 {
-    let r = take_bytes(
-        s,
-        bytes,
-        &mut sm[places::ARRAYS..places::ARRAYS_END],
-        table,
-        known,
-        inbox,
-        store,
-    );
-    let t = r.session;
-    numbers::save(sm, t);
-    reply(r.answer, 0, r.count)
+    let mem = &mut sm[places::ARRAYS..places::ARRAYS_END];
+    let taken = take_bytes(s, bytes, mem, table, known, inbox, store);
+    numbers::save(sm, *s);
+    reply(taken.end, 0, taken.count)
 }
 
 // Takes bytes from the link.
@@ -109,19 +96,19 @@ pub fn receive<'a>(
     ensures { record { reply = result; sm = sm.new; table = table.new; inbox = inbox.new; store = store.new } ≡ receive_of sm.old table.old titles.now names.now bodies.now known.now inbox.old store.old bytes.now }
 {
     if !form_test::form(sm, table, titles, names, bodies, known, inbox, store) {
-        return reply(refusal::BAD_MEMORY, refusal::NO_PLACE, 0);
+        return reply(Err(Refusal::BadMemory), refusal::NO_PLACE, 0);
     }
     let s = numbers::load(sm);
     if pending::is_over(s) {
-        return reply(refusal::SESSION_ENDED, 0, 0);
+        return reply(Err(Refusal::SessionEnded), 0, 0);
     }
     if bytes.len() == 0 {
-        return reply(refusal::NONE, 0, 0);
+        return reply(Ok(()), 0, 0);
     }
     if byte_run::take_run(s, bytes, sm, store) {
-        return reply(refusal::NONE, 0, bytes.len());
+        return reply(Ok(()), 0, bytes.len());
     }
     // loaded again, so that bytes that are taken there don't pay for all of them
-    let all = numbers::load(sm);
-    take_all(all, bytes, sm, table, known, inbox, store)
+    let mut all = numbers::load(sm);
+    take_all(&mut all, bytes, sm, table, known, inbox, store)
 }

@@ -10,9 +10,7 @@ use Rattle.layout.specs.Layout.{byte_at, entry_at, entry_out}
 use Rattle.phase.specs.Phase.{phase_transfer, phase_over, piece_none, not_our_turn, our_turn_now, no_proposal}
 use Rattle.places.specs.Places.{form_at, entry_len, proposal_len}
 use Rattle.transfer_step.specs.declared.Reader.{Reader}
-use Rattle.transfer_step.specs.declared.ReadStep.{ReadStep}
-use Rattle.transfer_step.specs.declared.ReadOutcome.{ReadOutcome}
-use Rattle.transfer_step.specs.declared.ReadOutcome.TheVariants.{More, Whole, Malformed, WrongSum, NoRoom}
+use Rattle.transfer_step.specs.Outcome.{ReadOutcome, More, Whole, Malformed, WrongSum, NoRoom, ReadStep}
 use Rattle.transfer_step.specs.Step.{outcome_number, step_of}
 use Rattle.transfer_read.specs.Feed.{heading_put, store_put, room_of}
 use Rattle.session_memory.specs.State.{cursor_at, held, load_of, save_of}

@@ -4,27 +4,25 @@
 ghost use Rattle.std.specs.Prelude.{[], ◌∷◌, ◌++◌};
 ghost use Rattle.grammar.specs.Bytes.{LF};
 ghost use Rattle.grammar.specs.Fields.{decimal};
-ghost use Rattle.buffer.specs.Put.{Puts};
+ghost use Rattle.buffer.specs.Put.{Takes};
 ghost use Rattle.refusal_line.specs.Line.{refusal_line};
 
-use buffer::Cursor;
+use buffer::Writer;
 use decimal::digits;
 
 // A number in decimal digits, and the LF that ends the line.
-fn put_number(buf: &mut [u8], c: Cursor, n: u8) -> Cursor
-    ensures { Puts buf.old c (decimal n ++ (LF ∷ [])) result buf.new }
+fn put_number(w: &mut Writer, n: u8)
+    ensures { Takes w.old (decimal n ++ (LF ∷ [])) w.new }
 {
-    let d = digits(n as u32);
-    let bytes = d.bytes;
-    let start = d.start;
-    let e = buffer::put(buf, c, &bytes[start..]);
-    buffer::put_byte(buf, e, b'\n')
+    let d = digits(u32::from(n));
+    w.put(d.as_bytes());
+    w.put_byte(b'\n');
 }
 
-// The line for this number, 0 if nothing was refused, at the cursor.
-pub fn write_refusal(n: u8, buf: &mut [u8], c: Cursor) -> Cursor
-    ensures { Puts buf.old c (refusal_line n) result buf.new }
+/// The line for this number, 0 if nothing was refused.
+pub fn write_refusal(w: &mut Writer, n: u8)
+    ensures { Takes w.old (refusal_line n) w.new }
 {
-    let d = buffer::put(buf, c, b"refusal ");
-    put_number(buf, d, n)
+    w.put(b"refusal ");
+    put_number(w, n);
 }

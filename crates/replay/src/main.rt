@@ -2,7 +2,7 @@
 // it would send, then a line `refusal N`. No contract can name what is read and written, so all else is done in crates that have contracts.
 #![tactic(auto)]
 
-use buffer::Cursor;
+use buffer::Writer;
 use capture::Played;
 use std::io;
 use std::io::{Read, Write};
@@ -52,8 +52,8 @@ fn turn<R: Read, W: Write>(
     Ok(p)
 }
 
-// All of the input, and the number of the refusal, 0 if there was none. A proved loop has to end: it counts down from a number that no run
-// uses up.
+// All of the input, and the number of the refusal, 0 if there was none. A proved loop has to end: it counts to a number that no run
+// reaches.
 fn play_all<R: Read, W: Write>(
     input: &mut R,
     link: &mut W,
@@ -62,13 +62,11 @@ fn play_all<R: Read, W: Write>(
     store: &mut [u8],
     out: &mut [u8],
 ) -> io::Result<u8> {
-    let mut turns = u64::MAX;
-    while turns > 0 {
+    for _ in 0..u64::MAX {
         let p = turn(input, link, session, inbox, store, out)?;
         if p.over {
             return Ok(p.refusal);
         }
-        turns -= 1;
     }
     Ok(refusal::NONE)
 }
@@ -93,8 +91,10 @@ fn replay<R: Read, W: Write>(
 // The last line.
 fn tell<W: Write>(link: &mut W, n: u8) -> io::Result<()> {
     let mut line = [0u8; MOST_WAITING];
-    let c = refusal_line::write_refusal(n, &mut line, Cursor { at: 0, skip: 0 });
-    send(link, &line, c.at)
+    let mut w = Writer::new(&mut line, 0, 0);
+    refusal_line::write_refusal(&mut w, n);
+    let count = w.cursor.at;
+    send(link, &line, count)
 }
 
 // The memory that is lent, and a buffer with room for what each byte of a portion brings.

@@ -1,18 +1,18 @@
-// A line read as a routing header, in either form of 003. The mailbox is shown where it lies in the line; nothing is copied.
+//! A line read as a routing header, in either form of 003. The mailbox is shown where it lies in the line; nothing is copied.
 #![tactic(auto)]
 
-ghost use Rattle.std.specs.Prelude.{◌≡◌, ◌≤◌, length, drop};
+ghost use Rattle.std.specs.Prelude.{◌≡◌, true, ◌≤◌, length, drop, IfSome};
 ghost use Rattle.grammar.specs.Fields.{read_size};
 ghost use Rattle.span.specs.Places.{part, Lies};
 ghost use Rattle.calendar.specs.Meaning.{date_is, time_is};
-ghost use Rattle.route.specs.Routes.{header_station, first_form, second_form, station_of, behind_time, read_header};
-ghost use Rattle.route_read.specs.Meaning.{StationIs, RouteIs};
+ghost use Rattle.route.specs.Routes.{header_station, first_form, second_form, station_of, is_stamp, behind_time, read_header};
+ghost use Rattle.route_read.specs.Meaning.{station_said, route_said};
 
 use calendar::{Date, Time};
-use date_digits::{ReadDate, ReadTime, read_date, read_time};
+use date_digits::{read_date, read_time};
 use field::is_at;
 use route_scan::{MARK_LENGTH, begins_at, behind_mark, byte_at, is_gmt, past_zone, skip_white};
-use size::{Size, read_size};
+use size::read_size;
 use span::{Span, find_from};
 
 // A time stamp without its zone, 003's STAMP: `R:`, the date, a slash, the time.
@@ -24,8 +24,8 @@ const TIME: usize = SLASH + 1;
 
 const STAMP_LENGTH: usize = TIME + date_digits::TIME_LENGTH;
 
-// What a header says, its mailbox by the place in the line. gmt: the zone is known, and is GMT.
-#[derive(Drop)]
+/// What a header says, its mailbox by the place in the line. gmt: the zone is known, and is GMT.
+#[derive(Clone, Copy)]
 pub struct Header {
     pub date: Date,
     pub time: Time,
@@ -34,148 +34,117 @@ pub struct Header {
     pub mailbox: Span,
 }
 
-// What a line is.
-#[derive(Drop)]
-pub enum Route {
-    Is(Header),
-    NotHeader,
-}
-
 // A number and a mailbox, as either form has them.
-#[derive(Drop)]
+#[derive(Clone, Copy)]
 struct Station {
     number: u32,
     mailbox: Span,
 }
 
-// What follows the stamp.
-#[derive(Drop)]
-enum Stated {
-    Is(Station),
-    Nothing,
-}
-
 // Number and mailbox, each judged by its rule.
-fn judged(line: &[u8], number: Span, mailbox: Span) -> Stated
-    requires { Lies line.now number × Lies line.now mailbox }
-    ensures { StationIs line.now result (header_station (read_size (part line.now number)) (part line.now mailbox)) }
+fn judged(line: &[u8], number: Span, mailbox: Span) -> Option<Station>
+    requires number { Lies line.now number }
+    requires mailbox { Lies line.now mailbox }
+    ensures value { station_said line.now result ≡ header_station (read_size (part line.now number)) (part line.now mailbox) }
+    ensures within { IfSome result (λ s. Lies line.now s.mailbox) }
 {
-    let from = number.start;
-    let to = number.end;
-    let start = mailbox.start;
-    let end = mailbox.end;
-    match read_size(&line[from..to]) {
-        Size::Bad => Stated::Nothing,
-        Size::Value(n) => {
-            if !is_at(&line[start..end]) {
-                return Stated::Nothing;
-            }
-            Stated::Is(Station {
-                number: n,
-                mailbox: mailbox,
-            })
-        }
-    }
+    let size = read_size(&line[number.start..number.end])?;
+    is_at(&line[mailbox.start..mailbox.end]).then_some(Station {
+        number: size,
+        mailbox,
+    })
 }
 
 // Number, `@`, mailbox, remarks.
-fn first_form(line: &[u8], at: usize) -> Stated
+#[tactic(auto, using(crate::proofs::Laws::no_sign, crate::proofs::Laws::first_by))]
+fn first_form(line: &[u8], at: usize) -> Option<Station>
     requires { at ≤ length line.now }
-    ensures { StationIs line.now result (first_form (drop at line.now)) }
+    ensures value { station_said line.now result ≡ first_form (drop at line.now) }
+    ensures within { IfSome result (λ s. Lies line.now s.mailbox) }
 {
     let sign = find_from(line, at, b'@');
     if line.len() <= sign {
-        return Stated::Nothing;
+        return None;
     }
     let end = find_from(line, sign + 1, b' ');
-    judged(
-        line,
-        Span {
-            start: at,
-            end: sign,
-        },
-        Span {
-            start: sign + 1,
-            end: end,
-        },
-    )
+    let number = Span {
+        start: at,
+        end: sign,
+    };
+    let mailbox = Span {
+        start: sign + 1,
+        end,
+    };
+    judged(line, number, mailbox)
 }
 
 // After `@:` the mailbox, remarks, the first `#:` with the number, remarks.
-fn second_form(line: &[u8], at: usize) -> Stated
+#[tactic(auto, using(crate::proofs::Laws::second_by))]
+fn second_form(line: &[u8], at: usize) -> Option<Station>
     requires { at ≤ length line.now }
-    ensures { StationIs line.now result (second_form (drop at line.now)) }
+    ensures value { station_said line.now result ≡ second_form (drop at line.now) }
+    ensures within { IfSome result (λ s. Lies line.now s.mailbox) }
 {
     let end = find_from(line, at, b' ');
-    let number = behind_mark(line, end);
-    let stop = find_from(line, number, b' ');
-    judged(
-        line,
-        Span {
-            start: number,
-            end: stop,
-        },
-        Span {
-            start: at,
-            end: end,
-        },
-    )
+    let start = behind_mark(line, end);
+    let stop = find_from(line, start, b' ');
+    judged(line, Span { start, end: stop }, Span { start: at, end })
 }
 
 // Either form.
-fn either_form(line: &[u8], at: usize) -> Stated
+#[tactic(auto, using(crate::proofs::Laws::as_second, crate::proofs::Laws::as_first))]
+fn either_form(line: &[u8], at: usize) -> Option<Station>
     requires { at ≤ length line.now }
-    ensures { StationIs line.now result (station_of (drop at line.now)) }
+    ensures value { station_said line.now result ≡ station_of (drop at line.now) }
+    ensures within { IfSome result (λ s. Lies line.now s.mailbox) }
 {
     if begins_at(line, at, b'@', b':') {
-        return second_form(line, at + MARK_LENGTH);
+        second_form(line, at + MARK_LENGTH)
+    } else {
+        first_form(line, at)
     }
-    first_form(line, at)
 }
 
 // What follows the time: perhaps a zone, white space, and number and mailbox.
-fn behind_time(line: &[u8], date: Date, time: Time) -> Route
-    ensures { RouteIs line.now result (behind_time line.now (date_is date) (time_is time)) }
+#[tactic(auto, using(crate::proofs::Laws::no_white, crate::proofs::Laws::by_station))]
+fn behind_time(line: &[u8], date: Date, time: Time) -> Option<Header>
+    ensures value { route_said line.now result ≡ behind_time line.now (date_is date) (time_is time) }
+    ensures within { IfSome result (λ h. Lies line.now h.mailbox) }
 {
     let zone = byte_at(line, STAMP_LENGTH);
     let white = past_zone(zone);
     let at = skip_white(line, white);
     if at <= white {
-        return Route::NotHeader;
+        return None;
     }
-    match either_form(line, at) {
-        Stated::Nothing => Route::NotHeader,
-        Stated::Is(s) => {
-            let mailbox = s.mailbox;
-            Route::Is(Header {
-                date: date,
-                time: time,
-                gmt: is_gmt(zone),
-                number: s.number,
-                mailbox: mailbox,
-            })
-        }
-    }
+    let Station { number, mailbox } = either_form(line, at)?;
+    Some(Header {
+        date,
+        time,
+        gmt: is_gmt(zone),
+        number,
+        mailbox,
+    })
 }
 
-// The header that a line is, if it is one.
-pub fn read(line: &[u8]) -> Route
-    ensures { RouteIs line.now result (read_header line.now) }
+// A time stamp stands at the line's start.
+fn is_stamp(line: &[u8]) -> bool
+    ensures value { result ≡ is_stamp line.now }
+    ensures long { result ≡ true → STAMP_LENGTH ≤ length line.now }
 {
-    if line.len() < STAMP_LENGTH {
-        return Route::NotHeader;
+    STAMP_LENGTH <= line.len() && begins_at(line, 0, b'R', b':') && line[SLASH] == b'/'
+}
+
+/// The header that a line is, in either form of 003; `None` where it is none.
+#[tactic(auto, unfolding(route::specs::Routes::read_header))]
+pub fn read(line: &[u8]) -> Option<Header>
+    ensures value { route_said line.now result ≡ read_header line.now }
+    ensures within { IfSome result (λ h. Lies line.now h.mailbox) }
+{
+    if !is_stamp(line) {
+        return None;
     }
-    if !begins_at(line, 0, b'R', b':') {
-        return Route::NotHeader;
-    }
-    if line[SLASH] != b'/' {
-        return Route::NotHeader;
-    }
-    match read_date(&line[DATE..SLASH]) {
-        ReadDate::BadDate => Route::NotHeader,
-        ReadDate::Says(date) => match read_time(&line[TIME..STAMP_LENGTH]) {
-            ReadTime::BadTime => Route::NotHeader,
-            ReadTime::Says(time) => behind_time(line, date, time),
-        },
-    }
+    let date = read_date(&line[DATE..SLASH])?;
+    let time = read_time(&line[TIME..STAMP_LENGTH])?;
+    behind_time(line, date, time)
 }

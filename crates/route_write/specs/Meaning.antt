@@ -1,13 +1,12 @@
 -- What the writer is given, and what its answer says.
-use Rattle.std.specs.Prelude.{ℕ, ◌+◌, length}
+use Rattle.std.specs.Prelude.{ℕ, ◌+◌, length, Result, Ok, Err}
 use Rattle.grammar.specs.Bytes.{Bytes}
 use Rattle.grammar.specs.Fields.{write_num}
 use Rattle.grammar.specs.Ascii.{text}
 use Rattle.calendar.specs.Meaning.{date_is, time_is}
-use Rattle.calendar.specs.declared.Date.{Date}
-use Rattle.calendar.specs.declared.Time.{Time}
 use Rattle.route.specs.Written as route
-use Rattle.route_write.specs.declared.Added.{Added}
+use Rattle.route_write.specs.declared.OurHeader.{OurHeader}
+use Rattle.route_write.specs.declared.Refused.{Refused}
 use Rattle.route.specs.Routes.{stamp_length}
 
 -- What our line has beside its number and mailbox: the stamp with `z` and a space, `@`, CR.
@@ -18,20 +17,20 @@ line_fixed_length = stamp_length + length (text "z ") + length (text "@\r")
 abbrev pub line_length : ℕ → Bytes → ℕ
 line_length n w = line_fixed_length + length (write_num route.number_digits n) + length w
 
-abbrev pub ours_is : Date → Time → ℕ → Bytes → route.OurHeader
-ours_is d t n w = record { date = date_is d; time = time_is t; number = n; mailbox = w }
+-- What the code's header stands for.
+abbrev pub ours_is : OurHeader → route.OurHeader
+ours_is h = record { date = date_is h.date; time = time_is h.time; number = h.number; mailbox = h.mailbox.now }
 
 -- The writer's own numbers: 0 written, 1 a field or time outside the rules, 2 no room.
-abbrev pub added_number : Added → ℕ
-added_number (Added.Written n) = route.route_written
-added_number Added.BadField = route.bad_field
-added_number Added.NoRoom = route.no_room
+abbrev pub added_number : Result ℕ Refused → ℕ
+added_number (Ok n) = route.route_written
+added_number (Err Refused.BadField) = route.bad_field
+added_number (Err Refused.NoRoom) = route.no_room
 
-abbrev pub added_count : Added → ℕ
-added_count (Added.Written n) = n
-added_count Added.BadField = 0
-added_count Added.NoRoom = 0
+abbrev pub added_count : Result ℕ Refused → ℕ
+added_count (Ok n) = n
+added_count (Err e) = 0
 
 -- The answer, and the buffer that it leaves.
-abbrev pub added_is : Added → Bytes → route.Added
+abbrev pub added_is : Result ℕ Refused → Bytes → route.Added
 added_is r b = record { answer = added_number r; count = added_count r; buffer = b }

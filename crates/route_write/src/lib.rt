@@ -1,15 +1,15 @@
-// Our routing header, written with its CR in front of a body into a second buffer.
+//! Our routing header, written with its CR in front of a body into a second buffer.
 #![tactic(auto)]
 
 ghost use Rattle.std.specs.Prelude.{◌≡◌, true, [], ◌∷◌, ◌++◌, ◌<◌};
 ghost use Rattle.grammar.specs.Bytes.{CR};
-ghost use Rattle.buffer.specs.Put.{Puts};
+ghost use Rattle.buffer.specs.Put.{Takes};
 ghost use Rattle.calendar.specs.Meaning.{date_is, time_is};
 ghost use Rattle.route.specs.Written.{number_limit, may_write, stamp_text, route_line, add_route};
 ghost use Rattle.route_write.specs.Meaning.{line_length, ours_is, added_is};
 
-use buffer::Cursor;
-use calendar::{Date, Time, is_date, is_time};
+use buffer::Writer;
+use calendar::{Date, Time};
 use date_digits::{date_text, time_text};
 use decimal::digits;
 use field::is_at;
@@ -25,31 +25,55 @@ const FIXED_LENGTH: usize = STAMP + 2;
 // The stamp with `z` and a space.
 const STAMP: usize = 15;
 
-// The room of decimal's digits; those of a number stand at its end.
-const DIGITS_ROOM: usize = decimal::MOST_DIGITS;
+/// What our header says: a time in GMT, a number of 1 to 9 digits, and a mailbox by 01's at rule. Any values: whether they may be written says `add_route`.
+#[derive(Clone, Copy)]
+pub struct OurHeader<'a> {
+    pub date: Date,
+    pub time: Time,
+    pub number: u32,
+    pub mailbox: &'a [u8],
+}
 
-// How the writer answers: with how many bytes it has written, or by what it refuses, and then it has written nothing.
-#[derive(Drop)]
-pub enum Added {
-    Written(usize),
+/// Why nothing is written.
+#[derive(Clone, Copy, Debug, PartialEq, Eq)]
+pub enum Refused {
+    /// A field or time outside the rules.
     BadField,
+    /// The buffer is too short, or line and body have more than 65,535 bytes.
     NoRoom,
 }
 
-// A time and fields within the rules.
-fn may_write(date: Date, time: Time, number: u32, mailbox: &[u8]) -> bool
-    ensures { result ≡ may_write (ours_is date time number mailbox.now) }
-{
-    if !is_date(date) {
-        return false;
+impl OurHeader<'_> {
+    // A time and fields within the rules.
+    #[tactic(auto, unfolding(route::specs::Written::may_write))]
+    fn may_write(&self) -> bool
+        ensures { result ≡ may_write (ours_is self.now) }
+    {
+        self.date.is_valid()
+            && self.time.is_valid()
+            && self.number < NUMBER_LIMIT
+            && is_at(self.mailbox)
     }
-    if !is_time(time) {
-        return false;
+
+    // How many bytes our line has, its CR included.
+    fn line_length(&self) -> usize
+        requires { self.now.number < number_limit }
+        ensures { result ≡ line_length self.now.number self.now.mailbox.now }
+    {
+        FIXED_LENGTH + digits(self.number).len() + self.mailbox.len()
     }
-    if NUMBER_LIMIT <= number {
-        return false;
+
+    // Our line and its CR.
+    fn put(&self, w: &mut Writer)
+        requires { self.now.number < number_limit }
+        ensures { Takes w.old (route_line (ours_is self.now) ++ (CR ∷ [])) w.new }
+    {
+        let d = digits(self.number);
+        w.put(&stamp_text(self.date, self.time));
+        w.put(d.as_bytes());
+        w.put_byte(b'@');
+        w.put_line(self.mailbox);
     }
-    is_at(mailbox)
 }
 
 // The stamp in GMT and a space.
@@ -63,62 +87,25 @@ fn stamp_text(date: Date, time: Time) -> [u8; STAMP]
     ]
 }
 
-// How many bytes our line has, its CR included.
-fn line_length(number: u32, mailbox: &[u8]) -> usize
-    requires { number < number_limit }
-    ensures { result ≡ line_length number mailbox.now }
+/// Our line in front of a body, at the start of out: how many bytes that is. No other byte of out changes, and none where it is refused.
+pub fn add_route(out: &mut [u8], header: &OurHeader, body: &[u8]) -> Result<usize, Refused>
+    ensures { added_is result out.new ≡ add_route out.old (ours_is header.now) body.now }
 {
-    let d = digits(number);
-    FIXED_LENGTH + (DIGITS_ROOM - d.start) + mailbox.len()
-}
-
-// Our line and its CR, at the cursor.
-fn put_route(
-    out: &mut [u8],
-    c: Cursor,
-    date: Date,
-    time: Time,
-    number: u32,
-    mailbox: &[u8],
-) -> Cursor
-    requires { number < number_limit }
-    ensures { Puts out.old c (route_line (ours_is date time number mailbox.now) ++ (CR ∷ [])) result out.new }
-{
-    let stamp = stamp_text(date, time);
-    let d = digits(number);
-    let bytes = d.bytes;
-    let start = d.start;
-    let c1 = buffer::put(out, c, &stamp);
-    let c2 = buffer::put(out, c1, &bytes[start..]);
-    let c3 = buffer::put_byte(out, c2, b'@');
-    buffer::put_line(out, c3, mailbox)
-}
-
-// Our line in front of a body, at the start of out; no other byte of out changes.
-pub fn add_route(
-    out: &mut [u8],
-    date: Date,
-    time: Time,
-    number: u32,
-    mailbox: &[u8],
-    body: &[u8],
-) -> Added
-    ensures { added_is result out.new ≡ add_route out.old (ours_is date time number mailbox.now) body.now }
-{
-    if !may_write(date, time, number, mailbox) {
-        return Added::BadField;
+    if !header.may_write() {
+        return Err(Refused::BadField);
     }
     if BODY_MAX < body.len() {
-        return Added::NoRoom;
+        return Err(Refused::NoRoom);
     }
-    let whole = line_length(number, mailbox) + body.len();
+    let whole = header.line_length() + body.len();
     if BODY_MAX < whole {
-        return Added::NoRoom;
+        return Err(Refused::NoRoom);
     }
     if out.len() < whole {
-        return Added::NoRoom;
+        return Err(Refused::NoRoom);
     }
-    let c = put_route(out, Cursor { at: 0, skip: 0 }, date, time, number, mailbox);
-    let _end = buffer::put(out, c, body);
-    Added::Written(whole)
+    let mut w = Writer::new(out, 0, 0);
+    header.put(&mut w);
+    w.put(body);
+    Ok(whole)
 }

@@ -1,86 +1,52 @@
-// The routing headers of a body, one after another from the top, and the mailbox where the message began.
+//! The routing headers of a body, one after another from the top, and the mailbox where the message began.
 #![tactic(auto)]
 
-ghost use Rattle.std.specs.Prelude.{◌≡◌};
+ghost use Rattle.std.specs.Prelude.{◌≡◌, ◌<◌, ◌≤◌, drop, length, IfSome};
+ghost use Rattle.span.specs.Places.{Lies};
 ghost use Rattle.route.specs.Routes.{route_of, origin_of};
-ghost use Rattle.routes.specs.Meaning.{NextHeaderIs, OriginIs};
+ghost use Rattle.routes.specs.Meaning.{headers_by, origin_said};
 
-use route_read::{Header, Route, read};
+use route_read::{Header, read};
 use span::Span;
-use text_line::{NextLine, next_line};
+use text_line::next_line;
 
-// A header, its mailbox by the place in the body, and the place from which the next one is read.
-#[derive(Drop)]
+/// A header, its mailbox by the place in the body, and the place from which the next one is read.
+#[derive(Clone, Copy)]
 pub struct Hop {
     pub header: Header,
     pub next: usize,
 }
 
-// The header at a place, or that the headers have ended.
-#[derive(Drop)]
-pub enum NextHeader {
-    Is(Hop),
-    End,
-}
-
-// Where a message began: its mailbox by the place in the body.
-#[derive(Drop)]
-pub enum Origin {
-    At(Span),
-    Nowhere,
-}
-
-// The header at a place: 0, or next of the header before.
-pub fn next_header(body: &[u8], at: usize) -> NextHeader
-    ensures { NextHeaderIs body.now at result }
+/// The header at a place: 0, or next of the header before; `None` where the headers have ended.
+pub fn next_header(body: &[u8], at: usize) -> Option<Hop>
+    ensures value { headers_by body.now result ≡ route_of (drop at body.now) }
+    ensures within { IfSome result (λ h. Lies body.now h.header.mailbox) }
+    ensures later { IfSome result (λ h. (at < h.next) × (h.next ≤ length body.now)) }
 {
-    match next_line(body, at) {
-        NextLine::End => NextHeader::End,
-        NextLine::Line(t) => {
-            let start = t.start;
-            let end = t.end;
-            match read(&body[start..end]) {
-                Route::NotHeader => NextHeader::End,
-                Route::Is(h) => {
-                    let date = h.date;
-                    let time = h.time;
-                    let mailbox = h.mailbox;
-                    NextHeader::Is(Hop {
-                        header: Header {
-                            date: date,
-                            time: time,
-                            gmt: h.gmt,
-                            number: h.number,
-                            mailbox: Span {
-                                start: start + mailbox.start,
-                                end: start + mailbox.end,
-                            },
-                        },
-                        next: t.next,
-                    })
-                }
-            }
-        }
-    }
+    let Some(line) = next_line(body, at) else {
+        return None;
+    };
+    let header = read(&body[line.start..line.end])?;
+    let mailbox = Span {
+        start: line.start + header.mailbox.start,
+        end: line.start + header.mailbox.end,
+    };
+    Some(Hop {
+        header: Header { mailbox, ..header },
+        next: line.next,
+    })
 }
 
-// The mailbox of the lowest header.
-pub fn find_origin(body: &[u8]) -> Origin
-    ensures { OriginIs body.now result }
+/// The mailbox of the lowest header, by its place in the body; `None` where no header stands.
+pub fn find_origin(body: &[u8]) -> Option<Span>
+    ensures value { origin_said body.now result ≡ origin_of (route_of body.now) }
+    ensures within { IfSome result (λ m. Lies body.now m) }
 {
-    let mut found = Origin::Nowhere;
+    let mut found = None;
     let mut at = 0;
-    loop {
-        match next_header(body, at) {
-            NextHeader::End => {
-                return found;
-            }
-            NextHeader::Is(hop) => {
-                let header = hop.header;
-                let mailbox = header.mailbox;
-                found = Origin::At(mailbox);
-                at = hop.next;
-            }
-        }
+    while let Some(hop) = next_header(body, at) {
+        found = Some(hop.header.mailbox);
+        at = hop.next;
     }
+    found
 }

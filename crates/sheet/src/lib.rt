@@ -1,11 +1,11 @@
-// THE TALLY SHEET of a session (02, Q-3): what became of the records that we proposed. Each event is a function that changes the sheet where it lies,
-// over one that makes the new sheet by value; a caller who holds the sheet by value has a third.
+// THE TALLY SHEET of a session (02, Q-3): what became of the records that we proposed. Each event is a method that changes the sheet where it lies.
 #![tactic(auto)]
 
 ghost use Rattle.std.specs.Prelude.{◌≡◌};
-ghost use Rattle.sheet.specs.Sheet.{more, less, count_proposed, count_forwarded, count_declined, count_deferred};
+ghost use Rattle.sheet.specs.Sheet.{less, count_proposed, count_forwarded, count_declined, count_deferred};
 
-// unsettled: proposed, and the FS line hasn't come, or accepted and not forwarded yet. proposed is the sum of the other four.
+/// unsettled: proposed, and the FS line hasn't come, or accepted and not forwarded yet. proposed is the sum of the other four.
+/// What doesn't fit a byte begins again at 0, and goes on from 255 below it.
 #[derive(Clone, Copy)]
 pub struct Sheet {
     pub proposed: u8,
@@ -15,124 +15,43 @@ pub struct Sheet {
     pub unsettled: u8,
 }
 
-const BYTE_VALUES: u16 = byte::BYTE_VALUES as u16;
+impl Sheet {
+    /// n records were proposed.
+    pub fn note_proposed(&mut self, n: u8)
+        ensures { self.new ≡ count_proposed self.old n }
+    {
+        self.proposed = self.proposed.wrapping_add(n);
+        self.unsettled = self.unsettled.wrapping_add(n);
+    }
 
-// n more; what doesn't fit begins again at 0.
-fn added(x: u8, n: u8) -> u8
-    ensures { result ≡ more x n }
-{
-    let y = (x as u16) + (n as u16);
-    (y % BYTE_VALUES) as u8
-}
+    /// n records were forwarded.
+    pub fn note_forwarded(&mut self, n: u8)
+        ensures { self.new ≡ count_forwarded self.old n }
+    {
+        self.forwarded = self.forwarded.wrapping_add(n);
+        self.settle(n);
+    }
 
-// n less; below 0 it goes on from 255.
-fn taken(x: u8, n: u8) -> u8
-    ensures { result ≡ less x n }
-{
-    let y = ((x as u16) + BYTE_VALUES) - (n as u16);
-    (y % BYTE_VALUES) as u8
-}
+    /// n records were declined.
+    pub fn note_declined(&mut self, n: u8)
+        ensures { self.new ≡ count_declined self.old n }
+    {
+        self.declined = self.declined.wrapping_add(n);
+        self.settle(n);
+    }
 
-// n records were proposed: by value.
-pub fn after_proposed(s: Sheet, n: u8) -> Sheet
-    ensures { result ≡ count_proposed s n }
-{
-    let mut t = s;
-    t.proposed = added(s.proposed, n);
-    t.unsettled = added(s.unsettled, n);
-    t
-}
+    /// n records were deferred.
+    pub fn note_deferred(&mut self, n: u8)
+        ensures { self.new ≡ count_deferred self.old n }
+    {
+        self.deferred = self.deferred.wrapping_add(n);
+        self.settle(n);
+    }
 
-// The same where it lies.
-pub fn note_proposed(sheet: &mut Sheet, n: u8)
-    ensures { sheet.new ≡ count_proposed sheet.old n }
-{
-    *sheet = after_proposed(*sheet, n);
-}
-
-// The same for a caller who has it by value.
-pub fn with_proposed(s: Sheet, n: u8) -> Sheet
-    ensures { result ≡ count_proposed s n }
-{
-    let mut t = s;
-    note_proposed(&mut t, n);
-    t
-}
-
-// n records were forwarded: by value.
-pub fn after_forwarded(s: Sheet, n: u8) -> Sheet
-    ensures { result ≡ count_forwarded s n }
-{
-    let mut t = s;
-    t.forwarded = added(s.forwarded, n);
-    t.unsettled = taken(s.unsettled, n);
-    t
-}
-
-// The same where it lies.
-pub fn note_forwarded(sheet: &mut Sheet, n: u8)
-    ensures { sheet.new ≡ count_forwarded sheet.old n }
-{
-    *sheet = after_forwarded(*sheet, n);
-}
-
-// The same for a caller who has it by value.
-pub fn with_forwarded(s: Sheet, n: u8) -> Sheet
-    ensures { result ≡ count_forwarded s n }
-{
-    let mut t = s;
-    note_forwarded(&mut t, n);
-    t
-}
-
-// n records were declined: by value.
-pub fn after_declined(s: Sheet, n: u8) -> Sheet
-    ensures { result ≡ count_declined s n }
-{
-    let mut t = s;
-    t.declined = added(s.declined, n);
-    t.unsettled = taken(s.unsettled, n);
-    t
-}
-
-// The same where it lies.
-pub fn note_declined(sheet: &mut Sheet, n: u8)
-    ensures { sheet.new ≡ count_declined sheet.old n }
-{
-    *sheet = after_declined(*sheet, n);
-}
-
-// The same for a caller who has it by value.
-pub fn with_declined(s: Sheet, n: u8) -> Sheet
-    ensures { result ≡ count_declined s n }
-{
-    let mut t = s;
-    note_declined(&mut t, n);
-    t
-}
-
-// n records were deferred: by value.
-pub fn after_deferred(s: Sheet, n: u8) -> Sheet
-    ensures { result ≡ count_deferred s n }
-{
-    let mut t = s;
-    t.deferred = added(s.deferred, n);
-    t.unsettled = taken(s.unsettled, n);
-    t
-}
-
-// The same where it lies.
-pub fn note_deferred(sheet: &mut Sheet, n: u8)
-    ensures { sheet.new ≡ count_deferred sheet.old n }
-{
-    *sheet = after_deferred(*sheet, n);
-}
-
-// The same for a caller who has it by value.
-pub fn with_deferred(s: Sheet, n: u8) -> Sheet
-    ensures { result ≡ count_deferred s n }
-{
-    let mut t = s;
-    note_deferred(&mut t, n);
-    t
+    /// So many fewer are not settled.
+    fn settle(&mut self, n: u8)
+        ensures { self.new ≡ record { proposed = self.old.proposed; forwarded = self.old.forwarded; declined = self.old.declined; deferred = self.old.deferred; unsettled = less self.old.unsettled n } }
+    {
+        self.unsettled = self.unsettled.wrapping_sub(n);
+    }
 }

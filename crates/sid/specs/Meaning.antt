@@ -1,20 +1,28 @@
--- A SID's answer, and the last hyphen by its place.
-use Rattle.std.specs.Prelude.{cond, List, ℕ, ◌-◌, eqb, take, drop}
+-- What the readers of a SID answer.
+use Rattle.std.specs.Prelude.{List, ℕ, Result, Ok, Err}
+use Rattle.std.specs.Prelude as std
 use Rattle.std.proofs.Math.Option.{Option, none, some}
-use Rattle.grammar.specs.Bytes.{Bytes}
-use Rattle.grammar.specs.Sid.{no_features, sid_number}
+use Rattle.grammar.specs.Refusals.{not_sid, no_forwarding}
 use Rattle.features.specs.declared.FeatureSet.{FeatureSet}
-use Rattle.sid.specs.declared.Sid.{Sid}
+use Rattle.sid.specs.declared.NoPartner.{NoPartner}
 
--- The features that a line says: those of a valid SID, and none where it is no SID.
-abbrev pub features_of : Option (List ℕ) → FeatureSet
-features_of none = record { levels = no_features }
-features_of (some fs) = record { levels = fs }
+-- The features that a line says as a SID, or that it is none.
+abbrev pub features_said : std.Option FeatureSet → Option (List ℕ)
+features_said (std.Some f) = some f.levels
+features_said std.None = none
 
--- "first line isn't a valid SID": 3; "partner's SID has no F": 4; and the features
-unfoldable pub sid_of : Option (List ℕ) → Sid
-sid_of o = record { number = sid_number o; features = features_of o }
+-- "first line isn't a valid SID": 3; "partner's SID has no F": 4
+abbrev pub no_partner_number : NoPartner → ℕ
+no_partner_number NoPartner.NotASid = not_sid
+no_partner_number (NoPartner.NoForwarding f) = no_forwarding
 
--- What stands before the last hyphen and what after it, by the number of bytes up to it and with it; 0 says that there is none.
-abbrev pub last_by : Bytes → ℕ → Option (Bytes × Bytes)
-last_by l p = cond (eqb p 0) none (some (take (p - 1) l, drop p l))
+-- 01's number, 0 where the session goes on.
+abbrev pub number_said : Result FeatureSet NoPartner → ℕ
+number_said (Ok f) = 0
+number_said (Err e) = no_partner_number e
+
+-- The features that the line says: those of a SID without F too.
+abbrev pub features_answered : Result FeatureSet NoPartner → Option (List ℕ)
+features_answered (Ok f) = some f.levels
+features_answered (Err NoPartner.NotASid) = none
+features_answered (Err (NoPartner.NoForwarding f)) = some f.levels

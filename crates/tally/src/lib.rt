@@ -12,17 +12,15 @@ use sheet::Sheet;
 // The sum has four bytes in session memory.
 const FOUR_BYTE_VALUES: usize = layout::FOUR_BYTE_VALUES;
 
-// What waits for the partner, beside this sheet.
+/// What waits for the partner, beside this sheet.
 pub fn counted(partner: u8, table: &[u8], sheet: Sheet) -> Tally
     ensures { result ≡ counted partner table.now sheet }
 {
     let n = entries::records(table);
     let mut waiting = 0u8;
     let mut sizes = 0usize;
-    let mut i = 0u16;
-    while i < n {
+    for i in 0..n {
         let bytes = entry(places::RECORD, table, i);
-        i += 1;
         if state_for(partner, bytes) != phase::STATE_WAITING {
             continue;
         }
@@ -30,8 +28,8 @@ pub fn counted(partner: u8, table: &[u8], sheet: Sheet) -> Tally
         sizes += number4(bytes, places::RECORD_SIZE_FIELD as u16);
     }
     Tally {
-        waiting: waiting,
+        waiting,
         sizes: (sizes % FOUR_BYTE_VALUES) as u32,
-        sheet: sheet,
+        sheet,
     }
 }

@@ -15,17 +15,17 @@ use layout::{entry, field};
 use number_read::number4;
 use transfer_step::{BLOCK_DATA, BLOCK_HEAD};
 
-// Our SID, the prompt, and `FF`, `FQ` or `F>`, each with its CR.
+/// Bytes of our SID, of the prompt, and of `FF`, `FQ` or `F>`, each with its CR.
 pub const SID_LENGTH: usize = 14;
 
 pub const PROMPT_LENGTH: usize = 2;
 
 pub const FIXED_LENGTH: usize = 3;
 
-// Either line that says why we hang up, with its CR.
+/// Bytes of either line that says why we hang up, with its CR.
 pub const ERROR_LENGTH: usize = 19;
 
-// What an FS line has beside its signs: `FS_LENGTH`, a space and the CR.
+/// Bytes of an FS line beside its signs: `FS`, a space and the CR.
 pub const FS_LENGTH: usize = 4;
 
 // What a proposal has beside from, at, to, BID and size.
@@ -52,7 +52,8 @@ fn framed(heading: usize, body: usize) -> usize
     FRAMED_LENGTH + heading + body + BLOCK_HEAD * ((body + LESS_THAN_BLOCK) / BLOCK_DATA)
 }
 
-// The transfer of the record at this place of the table.
+/// How many bytes the transfer of the record at this place of the table has; that of no record, past the table's end, is a plain one of
+/// nothing.
 pub fn transfer<'a>(table: &[u8], i: u8, titles: &'a [u8], names: &'a [u8], bodies: &[u8]) -> usize
     ensures { result ≡ length (transfer_of (record_of titles.now names.now bodies.now (entry_at record_len table.now i))) }
 {
@@ -62,14 +63,10 @@ pub fn transfer<'a>(table: &[u8], i: u8, titles: &'a [u8], names: &'a [u8], bodi
     }
     let heading = record_text::heading(r, titles, names).len();
     let body = record_text::body(r, bodies).len();
-    let form = r[places::RECORD_FORM as usize];
-    if form == record_text::FORM_MESSAGE {
-        return framed(heading, body);
+    match r[places::RECORD_FORM as usize] {
+        record_text::FORM_MESSAGE | record_text::FORM_FILE => framed(heading, body),
+        _ => PLAIN_LENGTH + heading + body,
     }
-    if form == record_text::FORM_FILE {
-        return framed(heading, body);
-    }
-    PLAIN_LENGTH + heading + body
 }
 
 // The decimal digits of a size.
@@ -78,8 +75,9 @@ fn digits(size: u32) -> usize
 {
     let mut before = LAST_DIGIT;
     let mut rest = size;
+    // Stays: a loop that divides has no plainer form; a `for` with a break in it takes more instructions.
     while BASE <= rest {
-        rest = rest / BASE;
+        rest /= BASE;
         before -= 1;
     }
     MOST_DIGITS - before
@@ -92,7 +90,7 @@ fn field_length(r: &[u8], at: u8, n: u8) -> usize
     field(r, at, n).len()
 }
 
-// The proposal of the record at this place of the table.
+/// How many bytes the proposal of the record at this place of the table has, its CR among them.
 pub fn proposal(table: &[u8], i: u8) -> usize
     ensures { result ≡ length (with_cr (proposal_line (proposal_of (record_of [] [] [] (entry_at record_len table.now i))))) }
 {

@@ -2,11 +2,16 @@
 use Rattle.std.specs.Prelude.{◌≡◌, ℕ, ◌+◌, min, Bool, true, false, cond, [], ◌∷◌, length, ◌==◌, slice_set}
 use Rattle.grammar.specs.Bytes.{Bytes}
 use Rattle.transfer_step.specs.declared.Reader.{Reader}
-use Rattle.transfer_read.specs.declared.FedPortion.{FedPortion}
-use Rattle.transfer_step.specs.declared.ReadOutcome.TheVariants.{More}
+use Rattle.transfer_step.specs.Outcome.{ReadOutcome, More}
 use Rattle.transfer_step.specs.Step.{goes_on, step_of}
 use Rattle.transfer_step.specs.Names.{to_heading, to_body}
 use Rattle.grammar.specs.Fields.{body_max}
+
+-- A portion's outcome, the reading after it, and how many bytes were read, a refused one and the last one of a transfer included.
+pub record FedPortion : Type 0 where
+  pub outcome : ReadOutcome
+  pub reader : Reader
+  pub count : ℕ
 
 -- What a portion comes to, with the heading's array and the store as they are then.
 pub record PortionRead : Type 0 where

@@ -2,3 +2,4 @@
 pub mod Feed
 pub mod Straight
 pub mod Meaning
+pub mod Told

@@ -4,9 +4,7 @@ use Rattle.grammar.specs.Bytes.{Bytes, CR, CTRLZ, byte_values, NUL}
 use Rattle.grammar.specs.Transfers.{Parsed, byte_sum}
 use Rattle.grammar.specs.Scan.{Scan, in_title, in_body, in_mark, at_start, at_len, in_head, in_off, in_data, at_size, at_sum, Scanned, goes, got, malformed, wrong_sum, no_room, scan_byte, scan_on, body_of}
 use Rattle.transfer_step.specs.declared.Reader.{Reader}
-use Rattle.transfer_step.specs.declared.ReadStep.{ReadStep}
-use Rattle.transfer_step.specs.declared.ReadOutcome.{ReadOutcome}
-use Rattle.transfer_step.specs.declared.ReadOutcome.TheVariants.{More, Whole, Malformed, WrongSum, NoRoom}
+use Rattle.transfer_step.specs.Outcome.{ReadOutcome, More, Whole, Malformed, WrongSum, NoRoom, ReadStep}
 use Rattle.transfer_step.specs.Step.{goes_on, reader, reading_goes_on, reading_ends}
 use Rattle.transfer_read.specs.Feed.{PortionRead, after_bytes, feed_of}
 use Rattle.transfer_step.specs.Names.{title_place, body_place, mark_place, start_place, length_place, heading_place, offset_place, data_place, size_place, checksum_place, nowhere, to_heading, to_body}

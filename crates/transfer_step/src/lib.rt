@@ -2,28 +2,11 @@
 #![tactic(auto)]
 
 ghost use Rattle.std.specs.Prelude.{◌≡◌, ◌+◌, ◌≤◌, min, length};
-ghost use Rattle.transfer_step.specs.Step.{start_of, title_step, body_step, mark_step, begin_step, length_step, heading_step, offset_step, data_step, size_step, sum_step, step_of, reading_goes_on, reading_ends};
+ghost use Rattle.transfer_step.specs.Told.{told, refused_number, place_of, place_number};
+ghost use Rattle.transfer_step.specs.Names.{nowhere};
+ghost use Rattle.transfer_step.specs.Step.{reader_at, start_of, title_step, body_step, mark_step, begin_step, length_step, heading_step, offset_step, data_step, size_step, sum_step, step_of, reading_goes_on};
 
-// The places: what the next byte is, or is of.
-const TITLE_PLACE: u8 = 0;
-
-pub const BODY_PLACE: u8 = 1;
-
-const MARK_PLACE: u8 = 2;
-
-const START_PLACE: u8 = 3;
-
-const LENGTH_PLACE: u8 = 4;
-
-const HEADING_PLACE: u8 = 5;
-
-const OFFSET_PLACE: u8 = 6;
-
-pub const DATA_PLACE: u8 = 7;
-
-const SIZE_PLACE: u8 = 8;
-
-const CHECKSUM_PLACE: u8 = 9;
+use refusal::Refusal;
 
 // The bytes that a plain transfer is marked by, and those of a framed one.
 const CR: u8 = line::CR;
@@ -65,285 +48,286 @@ pub const BLOCK_DATA: usize = 256;
 
 const FULL_BLOCK: u16 = BLOCK_DATA as u16;
 
-// Where a byte goes.
-const NOWHERE: u8 = 0;
-
-pub const TO_HEADING: u8 = 1;
-
-pub const TO_BODY: u8 = 2;
-
-// The reading so far in numbers. place: 0 title, 1 body, 2 mark, 3 start, 4 L, 5 heading, 6 offset, 7 data or block, 8 n, any other: checksum.
-// len: L; head, off, body: bytes of heading, offset and body so far; left: bytes of the block to come; sum: data bytes' sum modulo 256.
-#[derive(Clone, Copy)]
-pub struct Reader {
-    pub place: u8,
-    pub len: u8,
-    pub head: u8,
-    pub off: u8,
-    pub left: u16,
-    pub sum: u8,
-    pub body: u32,
+/// What the next byte of a transfer is, or is of. `Place as u8` is its number in a [`Reader`].
+#[derive(Clone, Copy, PartialEq, Eq)]
+pub enum Place {
+    Title = 0,
+    Body = 1,
+    Mark = 2,
+    Start = 3,
+    Length = 4,
+    Heading = 5,
+    Offset = 6,
+    /// A byte of a block, or what begins the next block or ends the last.
+    Data = 7,
+    Size = 8,
+    Checksum = 9,
 }
 
-// What the bytes so far are: the beginning of a transfer, a whole one, or refused (8, 9, 10).
-#[derive(Clone, Copy)]
-pub enum ReadOutcome {
-    More,
+// Any other number is the checksum's too: a host may have written it into the memory that the number stands in.
+impl From<u8> for Place {
+    ghost from_gives = { λ n p. p ≡ place_of n };
+
+    fn from(n: u8) -> Place {
+        match n {
+            0 => Place::Title,
+            1 => Place::Body,
+            2 => Place::Mark,
+            3 => Place::Start,
+            4 => Place::Length,
+            5 => Place::Heading,
+            6 => Place::Offset,
+            7 => Place::Data,
+            8 => Place::Size,
+            _ => Place::Checksum,
+        }
+    }
+}
+
+/// Where a byte goes, or that it was the transfer's last.
+#[derive(Clone, Copy, PartialEq, Eq)]
+pub enum Put {
+    Nowhere,
+    /// To the heading, at index `head` of the reading before it.
+    Heading,
+    /// To the body, at index `body` of the reading before it.
+    Body,
     Whole,
+}
+
+/// Why a byte is refused.
+#[derive(Clone, Copy, PartialEq, Eq)]
+pub enum Refused {
     Malformed,
     WrongSum,
     NoRoom,
 }
 
-// One byte's outcome, the reading after it (before it, unless it goes on), and where the byte goes:
-// 0 nowhere, 1 to the heading at index head of the reading before it, 2 to the body at index body.
+// 01's number.
+impl From<Refused> for u8 {
+    ghost from_gives = { λ why n. n ≡ refused_number why };
+
+    fn from(why: Refused) -> u8 {
+        match why {
+            Refused::Malformed => Refusal::BadTransfer as u8,
+            Refused::WrongSum => Refusal::BadChecksum as u8,
+            Refused::NoRoom => Refusal::StoreFull as u8,
+        }
+    }
+}
+
+/// The reading so far, in the numbers that lent memory holds.
 #[derive(Clone, Copy)]
-pub struct ReadStep {
-    pub outcome: ReadOutcome,
-    pub reader: Reader,
-    pub put: u8,
+pub struct Reader {
+    /// A [`Place`]. Stays a byte: memory keeps any number as it was (`step_of`, `numbers::specs::Whole`).
+    pub place: u8,
+    /// L.
+    pub len: u8,
+    /// Bytes of the heading so far.
+    pub head: u8,
+    /// Bytes of the offset so far.
+    pub off: u8,
+    /// Bytes of the block to come.
+    pub left: u16,
+    /// The sum of the data's bytes, modulo 256.
+    pub sum: u8,
+    /// Bytes of the body so far.
+    pub body: u32,
 }
 
-// The reading before a transfer's first byte. form: 0 plain, any other number framed.
-pub fn start(form: u8) -> Reader
-    ensures { result ≡ start_of form }
-{
-    let mut place = START_PLACE;
-    if form == 0 {
-        place = TITLE_PLACE;
-    }
-    Reader {
-        place,
-        len: 0,
-        head: 0,
-        off: 0,
-        left: 0,
-        sum: 0,
-        body: 0,
-    }
-}
-
-// One byte more is read: the reading r goes on.
-fn on(r: Reader, put: u8) -> ReadStep
-    ensures { result ≡ reading_goes_on r put }
-{
-    ReadStep {
-        outcome: ReadOutcome::More,
-        reader: r,
-        put,
-    }
-}
-
-// One byte more ends the reading r, which stays as it was.
-fn end(r: Reader, outcome: ReadOutcome) -> ReadStep
-    ensures { result ≡ reading_ends r outcome }
-{
-    ReadStep {
-        outcome,
-        reader: r,
-        put: NOWHERE,
-    }
-}
-
-// A byte of a plain title, or its CR.
-fn title(r: Reader, b: u8) -> ReadStep
-    ensures { result ≡ title_step r b }
-{
-    let mut t = r;
-    if b == CR {
-        if r.head == 0 {
-            return end(r, ReadOutcome::Malformed);
+impl Reader {
+    /// The reading before a transfer's first byte. `form`: 0 plain, any other number framed.
+    pub fn start(form: u8) -> Reader
+        ensures { result ≡ start_of form }
+    {
+        let place = if form == 0 {
+            Place::Title as u8
+        } else {
+            Place::Start as u8
+        };
+        Reader {
+            place,
+            len: 0,
+            head: 0,
+            off: 0,
+            left: 0,
+            sum: 0,
+            body: 0,
         }
-        t.place = BODY_PLACE;
-        return on(t, NOWHERE);
     }
-    if !byte::heading_byte(b) {
-        return end(r, ReadOutcome::Malformed);
-    }
-    if r.head < HEADING_MAX {
-        t.head = r.head + 1;
-        return on(t, TO_HEADING);
-    }
-    end(r, ReadOutcome::Malformed)
-}
 
-// A byte of a plain body, or the 0x1A after it.
-fn body(r: Reader, b: u8, room: u32) -> ReadStep
-    ensures { result ≡ body_step room r b }
-{
-    let mut t = r;
-    if b == CTRL_Z {
-        t.place = MARK_PLACE;
-        return on(t, NOWHERE);
-    }
-    if r.body < room {
-        t.body = r.body + 1;
-        return on(t, TO_BODY);
-    }
-    end(r, ReadOutcome::NoRoom)
-}
-
-// A space after 0x1A, or the CR that ends a plain transfer.
-fn mark(r: Reader, b: u8) -> ReadStep
-    ensures { result ≡ mark_step r b }
-{
-    if b == CR {
-        return end(r, ReadOutcome::Whole);
-    }
-    if b == SPACE {
-        return on(r, NOWHERE);
-    }
-    end(r, ReadOutcome::Malformed)
-}
-
-// The SOH that a framed transfer begins with.
-fn begin(r: Reader, b: u8) -> ReadStep
-    ensures { result ≡ begin_step r b }
-{
-    let mut t = r;
-    if b == SOH {
-        t.place = LENGTH_PLACE;
-        return on(t, NOWHERE);
-    }
-    end(r, ReadOutcome::Malformed)
-}
-
-// L, refused if no heading and offset have so many bytes.
-fn length(r: Reader, b: u8) -> ReadStep
-    ensures { result ≡ length_step r b }
-{
-    let mut t = r;
-    if b < LENGTH_LEAST {
-        return end(r, ReadOutcome::Malformed);
-    }
-    if b <= LENGTH_MOST {
-        t.place = HEADING_PLACE;
-        t.len = b;
-        return on(t, NOWHERE);
-    }
-    end(r, ReadOutcome::Malformed)
-}
-
-// A byte of a framed heading, or the NUL after it, where L leaves 1 to 6 digits for the offset.
-fn heading(r: Reader, b: u8) -> ReadStep
-    ensures { result ≡ heading_step r b }
-{
-    let mut t = r;
-    let head = r.head as u32;
-    let len = r.len as u32;
-    if b == NUL {
-        if r.head == 0 {
-            return end(r, ReadOutcome::Malformed);
+    /// Reads one byte. `room`: how many bytes the store takes of this body. Nothing is stored here: the answer says where the byte goes.
+    /// A refused byte, and a transfer's last, leave the reading as it was.
+    #[tactic(auto, unfolding(crate::specs::Step::step_of, crate::specs::Step::step_at))]
+    pub fn step(&mut self, b: u8, room: u32) -> Result<Put, Refused>
+        ensures { told result self.new ≡ step_of room self.old b }
+    {
+        match Place::from(self.place) {
+            Place::Title => self.title(b),
+            Place::Body => self.body(b, room),
+            Place::Mark => self.mark(b),
+            Place::Start => self.begin(b),
+            Place::Length => self.length(b),
+            Place::Heading => self.heading(b),
+            Place::Offset => self.offset(b),
+            Place::Data => self.data(b, room),
+            Place::Size => self.size(b),
+            Place::Checksum => self.checksum(b),
         }
-        if head + OFFSET_MOST < len {
-            return end(r, ReadOutcome::Malformed);
+    }
+
+    // The byte goes nowhere, and the next one is of this place.
+    fn go_on(&mut self, place: Place) -> Result<Put, Refused>
+        ensures { told result self.new ≡ reading_goes_on (reader_at (place_number place) self.old) nowhere }
+    {
+        self.place = place as u8;
+        Ok(Put::Nowhere)
+    }
+
+    // A byte of a plain title, or its CR.
+    #[tactic(auto, unfolding(crate::specs::Step::title_step))]
+    fn title(&mut self, b: u8) -> Result<Put, Refused>
+        ensures { told result self.new ≡ title_step self.old b }
+    {
+        match b {
+            CR if self.head > 0 => self.go_on(Place::Body),
+            _ if byte::heading_byte(b) && self.head < HEADING_MAX => {
+                self.head += 1;
+                Ok(Put::Heading)
+            }
+            _ => Err(Refused::Malformed),
         }
-        t.place = OFFSET_PLACE;
-        return on(t, NOWHERE);
     }
-    if !byte::heading_byte(b) {
-        return end(r, ReadOutcome::Malformed);
-    }
-    if HEADING_MAX <= r.head {
-        return end(r, ReadOutcome::Malformed);
-    }
-    if head + OFFSET_LEAST < len {
-        t.head = r.head + 1;
-        return on(t, TO_HEADING);
-    }
-    end(r, ReadOutcome::Malformed)
-}
 
-// A digit of the offset, which is 0, or the NUL after it, where L says.
-fn offset(r: Reader, b: u8) -> ReadStep
-    ensures { result ≡ offset_step r b }
-{
-    let mut t = r;
-    let len = r.len as u32;
-    let header = (r.head as u32) + (r.off as u32) + HEADER_NULS;
-    if b == NUL {
-        if len == header {
-            t.place = DATA_PLACE;
-            t.len = 0;
-            t.off = 0;
-            return on(t, NOWHERE);
+    // A byte of a plain body, or the 0x1A after it.
+    #[tactic(auto, unfolding(crate::specs::Step::body_step))]
+    fn body(&mut self, b: u8, room: u32) -> Result<Put, Refused>
+        ensures { told result self.new ≡ body_step room self.old b }
+    {
+        if b == CTRL_Z {
+            return self.go_on(Place::Mark);
         }
-        return end(r, ReadOutcome::Malformed);
-    }
-    if b != b'0' {
-        return end(r, ReadOutcome::Malformed);
-    }
-    if header < len {
-        t.off = r.off + 1;
-        return on(t, NOWHERE);
-    }
-    end(r, ReadOutcome::Malformed)
-}
-
-// A byte of a block; or the STX before a block, or the EOT after the last.
-fn data(r: Reader, b: u8, room: u32) -> ReadStep
-    ensures { result ≡ data_step room r b }
-{
-    let mut t = r;
-    if r.left == 0 {
-        if b == STX {
-            t.place = SIZE_PLACE;
-            return on(t, NOWHERE);
+        if self.body >= room {
+            return Err(Refused::NoRoom);
         }
-        if b == EOT {
-            t.place = CHECKSUM_PLACE;
-            return on(t, NOWHERE);
+        self.body += 1;
+        Ok(Put::Body)
+    }
+
+    // A space after 0x1A, or the CR that ends a plain transfer.
+    #[tactic(auto, unfolding(crate::specs::Step::mark_step))]
+    fn mark(&mut self, b: u8) -> Result<Put, Refused>
+        ensures { told result self.new ≡ mark_step self.old b }
+    {
+        match b {
+            CR => Ok(Put::Whole),
+            SPACE => Ok(Put::Nowhere),
+            _ => Err(Refused::Malformed),
         }
-        return end(r, ReadOutcome::Malformed);
     }
-    if t.body < room {
-        t.left = r.left - 1;
-        t.sum = std::num::wrapping_add_u8(r.sum, b);
-        t.body = r.body + 1;
-        return on(t, TO_BODY);
-    }
-    end(r, ReadOutcome::NoRoom)
-}
 
-// n of a block: 0 means 256.
-fn size(r: Reader, b: u8) -> ReadStep
-    ensures { result ≡ size_step r b }
-{
-    let mut t = r;
-    t.place = DATA_PLACE;
-    if b == 0 {
-        t.left = FULL_BLOCK;
-        return on(t, NOWHERE);
+    // The SOH that a framed transfer begins with.
+    #[tactic(auto, unfolding(crate::specs::Step::begin_step))]
+    fn begin(&mut self, b: u8) -> Result<Put, Refused>
+        ensures { told result self.new ≡ begin_step self.old b }
+    {
+        match b {
+            SOH => self.go_on(Place::Length),
+            _ => Err(Refused::Malformed),
+        }
     }
-    t.left = b as u16;
-    on(t, NOWHERE)
-}
 
-// The checksum, the last byte of a framed transfer: the wrapping negation of the data's wrapping sum.
-fn checksum(r: Reader, b: u8) -> ReadStep
-    ensures { result ≡ sum_step r b }
-{
-    if b == std::num::wrapping_sub_u8(0, r.sum) {
-        return end(r, ReadOutcome::Whole);
+    // L, refused if no heading and offset have so many bytes.
+    #[tactic(auto, unfolding(crate::specs::Step::length_step))]
+    fn length(&mut self, b: u8) -> Result<Put, Refused>
+        ensures { told result self.new ≡ length_step self.old b }
+    {
+        match b {
+            LENGTH_LEAST..=LENGTH_MOST => {
+                self.len = b;
+                self.go_on(Place::Heading)
+            }
+            _ => Err(Refused::Malformed),
+        }
     }
-    end(r, ReadOutcome::WrongSum)
-}
 
-// Reads one byte. room: how many bytes the store takes of this body. Nothing is stored here: the answer says where the byte goes.
-pub fn step(r: Reader, b: u8, room: u32) -> ReadStep
-    ensures { result ≡ step_of room r b }
-{
-    let place = r.place;
-    match place {
-        TITLE_PLACE => title(r, b),
-        BODY_PLACE => body(r, b, room),
-        MARK_PLACE => mark(r, b),
-        START_PLACE => begin(r, b),
-        LENGTH_PLACE => length(r, b),
-        HEADING_PLACE => heading(r, b),
-        OFFSET_PLACE => offset(r, b),
-        DATA_PLACE => data(r, b, room),
-        SIZE_PLACE => size(r, b),
-        _ => checksum(r, b),
+    // A byte of a framed heading, or the NUL after it, where L leaves 1 to 6 digits for the offset.
+    #[tactic(auto, unfolding(crate::specs::Step::heading_step))]
+    fn heading(&mut self, b: u8) -> Result<Put, Refused>
+        ensures { told result self.new ≡ heading_step self.old b }
+    {
+        let head = self.head as u32;
+        let len = self.len as u32;
+        match b {
+            NUL if self.head > 0 && len <= head + OFFSET_MOST => self.go_on(Place::Offset),
+            _ if byte::heading_byte(b) && self.head < HEADING_MAX && head + OFFSET_LEAST < len => {
+                self.head += 1;
+                Ok(Put::Heading)
+            }
+            _ => Err(Refused::Malformed),
+        }
+    }
+
+    // A digit of the offset, which is 0, or the NUL after it, where L says.
+    #[tactic(auto, unfolding(crate::specs::Step::offset_step))]
+    fn offset(&mut self, b: u8) -> Result<Put, Refused>
+        ensures { told result self.new ≡ offset_step self.old b }
+    {
+        let len = self.len as u32;
+        let header = (self.head as u32) + (self.off as u32) + HEADER_NULS;
+        match b {
+            NUL if len == header => {
+                self.len = 0;
+                self.off = 0;
+                self.go_on(Place::Data)
+            }
+            b'0' if header < len => {
+                self.off += 1;
+                Ok(Put::Nowhere)
+            }
+            _ => Err(Refused::Malformed),
+        }
+    }
+
+    // A byte of a block; or the STX before a block, or the EOT after the last.
+    #[tactic(auto, unfolding(crate::specs::Step::data_step))]
+    fn data(&mut self, b: u8, room: u32) -> Result<Put, Refused>
+        ensures { told result self.new ≡ data_step room self.old b }
+    {
+        if self.left == 0 {
+            return match b {
+                STX => self.go_on(Place::Size),
+                EOT => self.go_on(Place::Checksum),
+                _ => Err(Refused::Malformed),
+            };
+        }
+        if self.body >= room {
+            return Err(Refused::NoRoom);
+        }
+        self.left -= 1;
+        self.sum = self.sum.wrapping_add(b);
+        self.body += 1;
+        Ok(Put::Body)
+    }
+
+    // n of a block: 0 means 256.
+    #[tactic(auto, unfolding(crate::specs::Step::size_step))]
+    fn size(&mut self, b: u8) -> Result<Put, Refused>
+        ensures { told result self.new ≡ size_step self.old b }
+    {
+        self.left = if b == 0 { FULL_BLOCK } else { b as u16 };
+        self.go_on(Place::Data)
+    }
+
+    // The checksum, the last byte of a framed transfer: with the data's sum it is 0 modulo 256.
+    #[tactic(auto, unfolding(crate::specs::Step::sum_step))]
+    fn checksum(&mut self, b: u8) -> Result<Put, Refused>
+        ensures { told result self.new ≡ sum_step self.old b }
+    {
+        if self.sum.wrapping_add(b) == 0 {
+            Ok(Put::Whole)
+        } else {
+            Err(Refused::WrongSum)
+        }
     }
 }

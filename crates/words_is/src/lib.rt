@@ -1,5 +1,5 @@
-// The tests of the protocol's words for callers from C and Rust, answered by 1 or 0. They serve tests and benchmarks; the product's own calls are in the
-// crate fringemole.
+//! The tests of the protocol's words for callers from C and Rust, answered by 1 or 0. They serve tests and benchmarks; the product's own calls are in the
+//! crate fringemole.
 #![tactic(auto)]
 
 ghost use Rattle.std.specs.Prelude.{◌≡◌};
@@ -10,18 +10,8 @@ ghost use Rattle.byte.specs.Classes.{class_of};
 ghost use Rattle.words_is.specs.Numbers.{class_by, field_is};
 
 use byte::Class;
-use size::Size;
 
-// A test's answer as a number: 1 where it holds.
-fn flag_of(b: bool) -> u8
-    ensures { result ≡ flag b }
-{
-    if b {
-        return 1;
-    }
-    0
-}
-
+// Stay: the numbers by which callers from C name classes and rules (words_byte_is, words_field_is).
 // The classes of bytes by number; any other: SID data.
 const CALL_CLASS: u8 = 0;
 
@@ -52,6 +42,7 @@ const FORM_PLAIN: u8 = phase::FORM_PLAIN;
 const FORM_MESSAGE: u8 = phase::FORM_MESSAGE;
 
 // The class with this number.
+#[tactic(auto, unfolding(crate::specs::Numbers::class_by))]
 fn class_of(k: u8) -> Class
     ensures { result ≡ class_by k }
 {
@@ -65,26 +56,24 @@ fn class_of(k: u8) -> Class
     }
 }
 
-// 1 if the byte is of the class with this number.
+/// 1 if the byte is of the class with this number.
 #[unsafe(no_mangle)]
 pub extern "C" fn words_byte_is(class: u8, b: u8) -> u8
     ensures { result ≡ flag (class_of (class_by class) b) }
 {
-    flag_of(byte::in_class(class_of(class), b))
+    u8::from(class_of(class).has(b))
 }
 
 // The bytes are a size: 1 to 9 digits.
+#[tactic(auto, unfolding(grammar::specs::Fields::is_size))]
 fn is_size(s: &[u8]) -> bool
     ensures { result ≡ is_size s.now }
 {
-    let size = size::read_size(s);
-    match size {
-        Size::Value(_n) => true,
-        Size::Bad => false,
-    }
+    size::read_size(s).is_some()
 }
 
 // The bytes obey the field rule with this number.
+#[tactic(auto, unfolding(crate::specs::Numbers::field_is))]
 fn is_field(kind: u8, s: &[u8]) -> bool
     ensures { result ≡ field_is kind s.now }
 {
@@ -99,34 +88,34 @@ fn is_field(kind: u8, s: &[u8]) -> bool
     }
 }
 
-// 1 if the bytes obey the field rule with this number.
+/// 1 if the bytes obey the field rule with this number.
 #[unsafe(no_mangle)]
 pub extern "C" fn words_field_is(kind: u8, s: &[u8]) -> u8
     ensures { result ≡ flag (field_is kind s.now) }
 {
-    flag_of(is_field(kind, s))
+    u8::from(is_field(kind, s))
 }
 
-// 1 if the two BIDs are the same.
+/// 1 if the two BIDs are the same.
 #[unsafe(no_mangle)]
 pub extern "C" fn words_same_bid(a: &[u8], b: &[u8]) -> u8
     ensures { result ≡ flag (same_bid a.now b.now) }
 {
-    flag_of(bid::same_bid(a, b))
+    u8::from(bid::same_bid(a, b))
 }
 
-// 1 if the line is ignored wherever a line is awaited.
+/// 1 if the line is ignored wherever a line is awaited.
 #[unsafe(no_mangle)]
 pub extern "C" fn words_is_comment(line: &[u8]) -> u8
     ensures { result ≡ flag (is_comment line.now) }
 {
-    flag_of(line::is_comment(line))
+    u8::from(line::is_comment(line))
 }
 
-// 1 if the line's last byte is its only `>`.
+/// 1 if the line's last byte is its only `>`.
 #[unsafe(no_mangle)]
 pub extern "C" fn words_is_prompt(line: &[u8]) -> u8
     ensures { result ≡ flag (is_prompt line.now) }
 {
-    flag_of(line::is_prompt(line))
+    u8::from(line::is_prompt(line))
 }

@@ -1,12 +1,12 @@
 -- The questions and answers of the readers as numbers, for callers from C and Rust.
 use Rattle.std.specs.Prelude.{◌≡◌, Bool, not, List, [], ◌∷◌, ℕ, ◌-◌, eqb, replicate}
 use Rattle.std.proofs.Math.Option.{Option, none, some}
+use Rattle.std.specs.Prelude as std
 use Rattle.grammar.specs.Bytes.{Bytes}
 use Rattle.grammar.specs.Fields.{form_number}
 use Rattle.grammar.specs.Lines.{LineByte, dropped, ends, grows, overruns}
 use Rattle.grammar.specs.Sid.{no_features}
 use Rattle.grammar.specs.Turns.{Proposal, TurnLine, says_ff, says_fq, ends_block, not_allowed, proposes, ends_summed, turn_line_number}
-use Rattle.byte.specs.declared.Hex.{Hex}
 use Rattle.span.specs.declared.Span.{Span}
 use Rattle.span.specs.Places.{part, Lies}
 use Rattle.proposal.specs.declared.Proposal as code
@@ -110,13 +110,13 @@ NumbersOf l (ends_summed h) out = out ≡ summed_numbers h
 abbrev pub proposal_numbers : code.Proposal → List ℕ
 proposal_numbers p = eleven p.form p.kind p.from p.at p.to p.bid p.size
 
-abbrev pub end_numbers : Hex → List ℕ
-end_numbers (Hex.Value h) = summed_numbers h
-end_numbers Hex.Other = zeros
+abbrev pub end_numbers : std.Option ℕ → List ℕ
+end_numbers (std.Some h) = summed_numbers h
+end_numbers std.None = zeros
 
-abbrev pub end_code : Hex → ℕ
-end_code (Hex.Value h) = code_summed
-end_code Hex.Other = code_end
+abbrev pub end_code : std.Option ℕ → ℕ
+end_code (std.Some h) = code_summed
+end_code std.None = code_end
 
 abbrev pub told_numbers : told.TurnLine → List ℕ
 told_numbers told.TurnLine.FF = zeros

@@ -10,9 +10,11 @@ ghost use Rattle.line.specs.Byte.{line_byte_is};
 ghost use Rattle.fs_line.specs.Answers.{answer_number, answer_signs};
 ghost use Rattle.words_read.specs.Numbers.{holds, line_byte_code, sid_levels, turn_line_code, NumbersOf, proposal_numbers, end_numbers, end_code, told_numbers, told_code};
 
-use byte::Hex;
+use features::FeatureSet;
 use line::LineByte;
 use proposal::{Proposal, TurnLine};
+use refusal::Refusal;
+use sid::NoPartner;
 
 // What a byte does where a line is awaited.
 const BYTE_DROPPED: u8 = 0;
@@ -34,7 +36,7 @@ const PROPOSES: u8 = 3;
 
 const ENDS_SUMMED: u8 = 4;
 
-const NOT_ALLOWED: u8 = refusal::LINE_NOT_ALLOWED;
+const NOT_ALLOWED: u8 = Refusal::LineNotAllowed as u8;
 
 // The numbers of a proposal.
 const PROPOSAL_NUMBERS: usize = 11;
@@ -76,10 +78,17 @@ pub extern "C" fn words_read_sid(line: &[u8], levels: &mut [u8; features::PLACES
     ensures { (result ≡ sid_number (read_sid line.now)) × (levels.new ≡ sid_levels (read_sid line.now)) }
 {
     let read = sid::read_sid(line);
-    let features = read.features;
+    let features = match read {
+        Ok(features) => features,
+        Err(NoPartner::NoForwarding(features)) => features,
+        Err(NoPartner::NotASid) => FeatureSet::none(),
+    };
     let all = features.levels;
     *levels = all;
-    read.number
+    match read {
+        Ok(_) => refusal::NONE,
+        Err(cause) => u8::from(cause),
+    }
 }
 
 // Form, type, start and end of from, at, to and BID, and size.
@@ -102,22 +111,22 @@ fn proposal_numbers(p: Proposal) -> [u64; PROPOSAL_NUMBERS]
 }
 
 // F>: its checksum stands first.
-fn end_numbers(check: Hex) -> [u64; PROPOSAL_NUMBERS]
+fn end_numbers(check: Option<u8>) -> [u64; PROPOSAL_NUMBERS]
     ensures { result ≡ end_numbers check }
 {
     match check {
-        Hex::Value(h) => [h as u64, 0, 0, 0, 0, 0, 0, 0, 0, 0, 0],
-        Hex::Other => [0u64; PROPOSAL_NUMBERS],
+        Some(h) => [h as u64, 0, 0, 0, 0, 0, 0, 0, 0, 0, 0],
+        None => [0u64; PROPOSAL_NUMBERS],
     }
 }
 
 // The number of F>, with a checksum or with none.
-fn end_code(check: Hex) -> u8
+fn end_code(check: Option<u8>) -> u8
     ensures { result ≡ end_code check }
 {
     match check {
-        Hex::Value(_h) => ENDS_SUMMED,
-        Hex::Other => ENDS_BLOCK,
+        Some(_h) => ENDS_SUMMED,
+        None => ENDS_BLOCK,
     }
 }
 
@@ -171,8 +180,14 @@ pub extern "C" fn words_read_fs(
 ) -> u8
     ensures { (result ≡ answer_number level proposals line.now) × (signs.new ≡ answer_signs level proposals line.now) }
 {
-    let answers = fs_line::read_fs(line, proposals, level);
-    let bytes = answers.signs;
-    *signs = bytes;
-    answers.number
+    match fs_line::read_fs(line, proposals, level) {
+        Ok(answers) => {
+            *signs = answers;
+            refusal::NONE
+        }
+        Err(cause) => {
+            *signs = [0; BLOCK_LIMIT];
+            u8::from(cause)
+        }
+    }
 }

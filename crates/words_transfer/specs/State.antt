@@ -3,8 +3,7 @@ use Rattle.std.specs.Prelude.{◌≡◌, ℕ, ◌*◌, ◌%◌, List, [], ◌∷
 use Rattle.grammar.specs.Bytes.{Bytes, byte_values, two_byte_values, four_byte_values}
 use Rattle.grammar.specs.Refusals.{bad_transfer, bad_checksum, store_full}
 use Rattle.transfer_step.specs.declared.Reader.{Reader}
-use Rattle.transfer_step.specs.declared.ReadOutcome.{ReadOutcome}
-use Rattle.transfer_step.specs.declared.ReadOutcome.TheVariants.{More, Whole, Malformed, WrongSum, NoRoom}
+use Rattle.transfer_step.specs.Outcome.{ReadOutcome, More, Whole, Malformed, WrongSum, NoRoom}
 use Rattle.transfer_step.specs.Step.{reader}
 use Rattle.transfer_read.specs.Feed.{PortionRead, feed_of, room_of}
 

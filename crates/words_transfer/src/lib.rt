@@ -5,11 +5,13 @@
 ghost use Rattle.std.specs.Prelude.{◌≡◌, ◌%◌};
 ghost use Rattle.grammar.specs.Transfers.{checksum, heading_of};
 ghost use Rattle.transfer_step.specs.Step.{start_of};
+ghost use Rattle.transfer_read.specs.Told.{outcome_of_reached};
 ghost use Rattle.words_transfer.specs.State.{reading_state, reader_by, outcome_code, portion, PortionLeaves, Copied};
 ghost use Rattle.grammar.specs.Bytes.{byte_values};
 
-use buffer::Cursor;
-use transfer_step::{ReadOutcome, Reader};
+use buffer::Writer;
+use transfer_read::Reached;
+use transfer_step::{Reader, Refused};
 
 // A transfer under way as so many numbers, by their places; the last: how many bytes were consumed.
 const STATE: usize = 8;
@@ -82,15 +84,13 @@ fn reader_by(s: [u64; STATE]) -> Reader
 }
 
 // 0 goes on, 1 whole, else 01's number.
-fn outcome_code(o: ReadOutcome) -> u8
-    ensures { result ≡ outcome_code o }
+fn outcome_code(outcome: Result<Reached, Refused>) -> u8
+    ensures { result ≡ outcome_code (outcome_of_reached outcome) }
 {
-    match o {
-        ReadOutcome::More => GOES_ON,
-        ReadOutcome::Whole => WHOLE,
-        ReadOutcome::Malformed => refusal::BAD_TRANSFER,
-        ReadOutcome::WrongSum => refusal::BAD_CHECKSUM,
-        ReadOutcome::NoRoom => refusal::STORE_FULL,
+    match outcome {
+        Ok(Reached::More) => GOES_ON,
+        Ok(Reached::Whole) => WHOLE,
+        Err(why) => u8::from(why),
     }
 }
 
@@ -99,7 +99,7 @@ fn outcome_code(o: ReadOutcome) -> u8
 pub extern "C" fn words_transfer_start(form: u8, state: &mut [u64; STATE])
     ensures { state.new ≡ reading_state (start_of form) 0 }
 {
-    *state = state_of(transfer_step::start(form), 0);
+    *state = state_of(Reader::start(form), 0);
 }
 
 // Reads a portion, up to its end or an outcome: 0 goes on, 1 whole, 8, 9, 10 refused. The heading goes to `heading`, the body to `store`.
@@ -112,12 +112,10 @@ pub extern "C" fn words_transfer_feed(
 ) -> u8
     ensures { PortionLeaves (portion state.old input.now heading.old store.old) result state.new heading.new store.new }
 {
-    let before = *state;
-    let fed = transfer_read::feed(reader_by(before), input, heading, store);
-    let reader = fed.reader;
+    let mut reader = reader_by(*state);
+    let fed = transfer_read::feed(&mut reader, input, heading, store);
     *state = state_of(reader, fed.count);
-    let outcome = fed.outcome;
-    outcome_code(outcome)
+    outcome_code(fed.outcome)
 }
 
 // The checksum byte of framed data.
@@ -149,6 +147,7 @@ pub extern "C" fn words_heading<'a>(
     ensures { Copied buf.old (heading_of titles.now names.now form start len) result buf.new }
 {
     let heading = transfer_write::write_heading(titles, names, form, start, len);
-    let c = buffer::put(buf, Cursor { at: 0, skip: 0 }, heading);
-    c.at
+    let mut w = Writer::new(buf, 0, 0);
+    w.put(heading);
+    w.cursor.at
 }

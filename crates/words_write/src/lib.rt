@@ -8,7 +8,7 @@ ghost use Rattle.grammar.specs.Transfers.{write_plain, write_framed};
 ghost use Rattle.our_line.specs.Lines.{fixed_is, proposal_of_fields, fs_text};
 ghost use Rattle.words_write.specs.Written.{Writes, fixed_by, fixed_bytes};
 
-use buffer::Cursor;
+use buffer::Writer;
 use our_line::FixedKind;
 
 // The lines that never differ by number: our SID, the prompt, FF, FQ and F>.
@@ -43,8 +43,9 @@ pub extern "C" fn words_write_fixed(which: u8, buf: &mut [u8], place: usize, ski
     if END_LINE < which {
         return 0;
     }
-    let after = our_line::write_fixed(fixed_of(which), buf, Cursor { at: place, skip });
-    after.at - place
+    let mut w = Writer::new(buf, place, skip);
+    our_line::write_fixed(&mut w, fixed_of(which));
+    w.cursor.at - place
 }
 
 // A proposal with its CR, from fields as they are, none judged.
@@ -63,18 +64,9 @@ pub extern "C" fn words_write_proposal(
 ) -> usize
     ensures { Writes buf.old place skip (with_cr (proposal_line (proposal_of_fields form kind from.now at.now to.now bid.now size))) result buf.new }
 {
-    let after = our_line::write_proposal(
-        buf,
-        Cursor { at: place, skip },
-        form,
-        kind,
-        from,
-        at,
-        to,
-        bid,
-        size,
-    );
-    after.at - place
+    let mut w = Writer::new(buf, place, skip);
+    our_line::write_proposal(&mut w, form, kind, from, at, to, bid, size);
+    w.cursor.at - place
 }
 
 // `FS `, the sign bytes as they are, and CR.
@@ -82,8 +74,9 @@ pub extern "C" fn words_write_proposal(
 pub extern "C" fn words_write_fs(buf: &mut [u8], place: usize, skip: usize, signs: &[u8]) -> usize
     ensures { Writes buf.old place skip (fs_text signs.now) result buf.new }
 {
-    let after = our_line::write_fs(buf, Cursor { at: place, skip }, signs);
-    after.at - place
+    let mut w = Writer::new(buf, place, skip);
+    our_line::write_fs(&mut w, signs);
+    w.cursor.at - place
 }
 
 // A plain transfer; title and body aren't judged.
@@ -97,8 +90,9 @@ pub extern "C" fn words_write_plain(
 ) -> usize
     ensures { Writes buf.old place skip (write_plain title.now body.now) result buf.new }
 {
-    let after = transfer_write::write_plain(buf, Cursor { at: place, skip }, title, body);
-    after.at - place
+    let mut w = Writer::new(buf, place, skip);
+    transfer_write::write_plain(&mut w, title, body);
+    w.cursor.at - place
 }
 
 // A framed transfer; heading and body aren't judged.
@@ -112,6 +106,7 @@ pub extern "C" fn words_write_framed(
 ) -> usize
     ensures { Writes buf.old place skip (write_framed heading.now body.now) result buf.new }
 {
-    let after = transfer_write::write_framed(buf, Cursor { at: place, skip }, heading, body);
-    after.at - place
+    let mut w = Writer::new(buf, place, skip);
+    transfer_write::write_framed(&mut w, heading, body);
+    w.cursor.at - place
 }

@@ -1,0 +1,6 @@
+-- Two texts put as one.
+use Rattle.buffer.proofs.Laws.{takes_then}
+use Rattle.buffer.proofs.Writer.put_word.Goals as goal
+
+pub returns : goal.returns
+returns c = takes_then c.put.ensures c.put_byte.ensures

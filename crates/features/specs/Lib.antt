@@ -1,2 +1,0 @@
--- Numbers of this crate by name.
-pub mod Letters

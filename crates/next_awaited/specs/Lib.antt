@@ -1,0 +1,2 @@
+-- The proposal whose transfer is awaited.
+pub mod Accepted

@@ -1,0 +1,2 @@
+-- The refusals by 01's numbers.
+pub mod Numbers
