@@ -34,12 +34,15 @@ fn start_of(leap: bool, month: u8) -> u16
     requires { (1 ≤ month) × (month ≤ last_month) }
     ensures { result ≡ month_start leap month }
 {
-    let starts: [u16; 13] = if leap {
-        [0, 31, 60, 91, 121, 152, 182, 213, 244, 274, 305, 335, 366]
+    let at = usize::from(month - 1);
+    // each year with an array of its own, which the compiler keeps as a constant: one made by the `if` is written to the stack at each call
+    if leap {
+        let starts: [u16; 13] = [0, 31, 60, 91, 121, 152, 182, 213, 244, 274, 305, 335, 366];
+        starts[at]
     } else {
-        [0, 31, 59, 90, 120, 151, 181, 212, 243, 273, 304, 334, 365]
-    };
-    starts[usize::from(month - 1)]
+        let starts: [u16; 13] = [0, 31, 59, 90, 120, 151, 181, 212, 243, 273, 304, 334, 365];
+        starts[at]
+    }
 }
 
 /// The number of a date: its days from 1970-01-01.

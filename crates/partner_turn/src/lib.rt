@@ -112,7 +112,7 @@ fn proposal_line(
     with_proposal(line, p, block, n * (places::PROPOSAL as usize));
     s.now.proposals += 1;
     s.now.sum = wrapping_add_u8(s.now.sum, sum);
-    Ok(went())
+    Ok(went()) // a proposal marks nothing
 }
 
 // FF: the turn is whole, and it is our turn.

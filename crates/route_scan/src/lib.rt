@@ -39,21 +39,25 @@ pub fn byte_at(line: &[u8], at: usize) -> u8
     line.get(at).copied().unwrap_or(0)
 }
 
-// How much white space stands from a place on, in std's words.
-fn white_from(line: &[u8], at: usize) -> usize
-    ensures value { result ≡ length (take_while is_white (drop at line.now)) }
-    ensures within { result ≤ length (drop at line.now) }
+// How much white space a line begins with, in std's words.
+fn white_from(line: &[u8]) -> usize
+    ensures value { result ≡ length (take_while is_white line.now) }
+    ensures within { result ≤ length line.now }
 {
-    line.iter().skip(at).take_while(|b| is_white(**b)).count()
+    line.iter().take_while(|b| is_white(**b)).count()
 }
 
 /// The first byte from at on that is no white space; at itself where it lies past the end.
-#[tactic(auto, using(crate::proofs::Laws::white_is))]
+// By `line.iter().skip(at)` it would take at steps to get there.
+#[tactic(auto, using(crate::proofs::Laws::white_past))]
 pub fn skip_white(line: &[u8], at: usize) -> usize
     ensures value { result ≡ at + whites (drop at line.now) }
     ensures within { at < result → result ≤ length line.now }
 {
-    at + white_from(line, at)
+    if line.len() < at {
+        return at;
+    }
+    at + white_from(&line[at..])
 }
 
 /// The bytes a and b stand at a place.

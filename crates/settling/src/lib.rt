@@ -1,23 +1,33 @@
 // What a whole line or message leaves: marks in the table, our turn, or a session that is over.
 #![tactic(auto)]
 
-ghost use Rattle.std.specs.Prelude.{◌≡◌, length, Ok};
+ghost use Rattle.std.specs.Prelude.{◌≡◌, length};
 ghost use Rattle.grammar.specs.Bytes.{Bytes};
 ghost use Rattle.places.specs.Places.{arrays_len};
 ghost use Rattle.numbers.specs.Whole.{Arrays, await_of, whole_of};
-ghost use Rattle.line_effect.specs.Verdict.{turn_number, judged_in};
+ghost use Rattle.line_effect.specs.Judge.{judged};
+ghost use Rattle.line_effect.specs.Verdict.{judged_in};
 ghost use Rattle.receive_defined.specs.Receiving.{refused_of, line_done, settle_of};
 ghost use Rattle.receive_defined.specs.Tallied.{sheet_marked, proposes_of, recounted_of};
 ghost use Rattle.settling.specs.After.{after_line};
 ghost use Rattle.settling.specs.Answer.{answer_of};
 
-use line_effect::{Marks, Turn, Verdict};
+use line_effect::{Marks, Verdict};
 use marking::mark_all;
 use numbers::{AwaitNumbers, Numbers};
 use our_turn::speak;
 use refusal::Refusal;
 use session_memory::Tally;
 use sheet::Sheet;
+
+// What a line comes to in numbers, whatever they are: 01's number, or 0 with whose turn it then is, by `phase`, and the marks to set.
+#[derive(Clone, Copy)]
+pub struct Numbered {
+    // Stays: numbers beside `Result<Verdict, Refusal>`, since `settle` answered for every number and docs/CONFORMANCE.md names it.
+    pub answer: u8,
+    pub speaks: u8,
+    pub marks: Marks,
+}
 
 // The session is over: the line that says why waits, and nothing else. answer: 01's number of the refusal.
 #[tactic(auto, unfolding(numbers::specs::Whole::whole_of, receive_defined::specs::Receiving::refused_of))]
@@ -54,10 +64,10 @@ fn mark_sheet(sheet: &mut Sheet, marks: Marks)
 }
 
 // How many records our turn proposes: those on which an FS line is awaited, where it was our turn.
-fn proposes(turn: Turn, awaited: AwaitNumbers) -> u8
-    ensures { (a : Arrays) → result ≡ proposes_of (turn_number turn) (await_of awaited a) }
+fn proposes(speaks: u8, awaited: AwaitNumbers) -> u8
+    ensures { (a : Arrays) → result ≡ proposes_of speaks (await_of awaited a) }
 {
-    if turn == Turn::Theirs || awaited.phase != phase::FS {
+    if speaks == phase::NOT_OUR_TURN || awaited.phase != phase::FS {
         0
     } else {
         awaited.ours.count
@@ -74,19 +84,38 @@ fn recount(tally: &mut Tally, marks: Marks, partner: u8, table: &[u8])
 }
 
 // A line that is taken, or a kept message: marks first, then our turn, and both are counted. mem: the state's arrays after it.
-fn take(v: Verdict, s: &mut Numbers, after_cr: bool, mem: &[u8], table: &mut [u8])
+fn take(marks: Marks, speaks: u8, s: &mut Numbers, after_cr: bool, mem: &[u8], table: &mut [u8])
     requires { length mem.now ≡ arrays_len }
-    ensures { line_done 0 (whole_of s.new mem.now) table.new ≡ settle_of (judged_in (Ok v) s.old mem.now) after_cr table.old }
+    ensures { line_done 0 (whole_of s.new mem.now) table.new ≡ settle_of (judged 0 speaks marks (whole_of s.old mem.now)) after_cr table.old }
 {
     let partner = s.keep.terms.partner;
-    mark_all(table, partner, v.marks.places, v.marks.state);
+    mark_all(table, partner, marks.places, marks.state);
     let mut tally = s.tally;
-    mark_sheet(&mut tally.sheet, v.marks);
-    speak(s, &mem[..places::HEADING], table, u8::from(v.turn));
+    mark_sheet(&mut tally.sheet, marks);
+    speak(s, &mem[..places::HEADING], table, speaks);
     after_line(s, after_cr);
-    tally.sheet.note_proposed(proposes(v.turn, s.now));
-    recount(&mut tally, v.marks, partner, table);
+    tally.sheet.note_proposed(proposes(speaks, s.now));
+    recount(&mut tally, marks, partner, table);
     s.tally = tally;
+}
+
+// What a judged line or a kept message leaves, told in numbers, any numbers: an answer other than 0 is a refusal, and ends the session. The answer.
+pub fn settle_numbered(
+    told: Numbered,
+    s: &mut Numbers,
+    after_cr: bool,
+    mem: &[u8],
+    table: &mut [u8],
+) -> u8
+    requires { length mem.now ≡ arrays_len }
+    ensures { line_done result (whole_of s.new mem.now) table.new ≡ settle_of (judged told.answer told.speaks told.marks (whole_of s.old mem.now)) after_cr table.old }
+{
+    if told.answer == refusal::NONE {
+        take(told.marks, told.speaks, s, after_cr, mem, table);
+    } else {
+        refuse(s, told.answer);
+    }
+    told.answer
 }
 
 // What a judged line or a kept message leaves; a refusal is handed on, and ends the session. mem: the state's arrays after it.
@@ -102,7 +131,7 @@ pub fn settle(
 {
     match judged {
         Ok(v) => {
-            take(v, s, after_cr, mem, table);
+            take(v.marks, u8::from(v.turn), s, after_cr, mem, table);
             Ok(())
         }
         Err(why) => {
